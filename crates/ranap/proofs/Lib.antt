@@ -1,0 +1,12 @@
+pub mod Choosing
+pub mod PairsPass
+pub mod PairsScan
+pub mod ItemsPass
+pub mod ItemBytes
+pub mod ItemsScan
+pub mod Bits
+pub mod Starts
+pub mod Chain
+pub mod Accepts
+pub mod Seen
+pub mod Receipt
