@@ -6,9 +6,9 @@ use Rattle.ranap.proofs.ItemsScan.{Item-verdict, items-told}
 use Rattle.ranap.proofs.Starts.{starts-from, starts-kind, one-kind, counts-from, counts-good}
 use Rattle.ranap.proofs.PairsScan.{Pair-verdict, pairs-told}
 use Rattle.ranap.specs.Formed.{Starts, Counts, Placed, Assigns, Releases, Shaped, Well-formed, Says, Spells, First-fault, of-start, of-count, of-pair, of-item, Reads, free-from, offset-at, length-at, blank}
-use Rattle.rules.specs.Frame.{byte, kind-at, count-at, count-good, pair-at, pairs, pairs-of, pair-fault, item-fault, bytes-at, item-in, assignment-in, read-item, read-items, message-of, body-fault, fault-in, read-as, broken, read}
+use Rattle.rules.specs.Frame.{byte, kind-at, count-at, count-good, pair-at, pairs, pair-fault, item-fault, bytes-at, item-in, assignment-in, read-item, read-items, message-of, body-fault, fault-in, read-as, broken, read}
 use Rattle.rules.specs.Message.{Message, items-of, kind-of, place-of}
-use Rattle.rules.specs.Numbers.{frame-kind-number, most-items}
+use Rattle.rules.specs.Numbers.{frame-kind-number}
 use Rattle.rules.specs.declared.item.FrameKind.{FrameKind}
 use Rattle.rules.specs.declared.item.FrameKind.the-variants.{RabAssignmentRequest, IuReleaseCommand, RelocationCommand, RelocationPreparationFailure}
 use Rattle.rules.specs.declared.item.Item.the-variants.{Release}
@@ -17,7 +17,7 @@ use Rattle.std.proofs.shelf.Lists.{getD-map, length-map}
 use Rattle.std.proofs.shelf.Tests.{both-ways, eq-eqb, ne-eqb}
 use Rattle.std.specs.declared.option.Option.{Option}
 use Rattle.std.specs.declared.option.Option.the-variants.{Some, None}
-use Rattle.std.specs.declared.result.Result.the-variants.{Ok, Err}
+use Rattle.std.specs.declared.result.Result.the-variants.{Err}
 use lib.Dec.{eqb}
 use lib.ListN.{length, getD}
 use mathlib.Core.Bool.{Bool, true, false, cond}

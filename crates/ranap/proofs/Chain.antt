@@ -1,8 +1,8 @@
 -- The reader's steps together give what the rules say of a frame.
 use Prim.Native.Nat.{ℕ, _+_, _*_}
 use Rattle.ranap.specs.Head.{head-as, head-of}
-use Rattle.ranap.specs.Steps.{unless-fault, items-unless, items-read, after-pairs, body-read, message-after, frame-after}
-use Rattle.rules.specs.Frame.{byte, kind-at, count-at, count-good, pairs-of, pairs, pair-fault, item-fault, read-item, read-items, message-with, message-of, body-fault, fault-in, broken, read-as, read}
+use Rattle.ranap.specs.Steps.{unless-fault, items-unless, items-read, after-pairs, message-after, frame-after}
+use Rattle.rules.specs.Frame.{byte, kind-at, count-at, count-good, pairs, pair-fault, item-fault, read-items, body-fault, fault-in, broken, read-as, read}
 use Rattle.rules.specs.Message.{Message}
 use Rattle.rules.specs.declared.item.FrameKind.{FrameKind}
 use Rattle.rules.specs.declared.refusal.Refusal.{Refusal}
@@ -12,7 +12,7 @@ use Rattle.std.specs.declared.result.Result.{Result}
 use Rattle.std.specs.declared.result.Result.the-variants.{Ok, Err}
 use lib.ListN.{length}
 use mathlib.Core.Bool.{Bool, true, false, cond}
-use mathlib.Core.List.{List, map}
+use mathlib.Core.List.{List}
 use mathlib.Core.Path.{_≡_, refl}
 
 module _ (bs : List ℕ) where

@@ -5,7 +5,7 @@ use Rattle.rules.specs.Frame.{byte, pair-at, bytes-at, assign-good, release-goo
 use Rattle.std.proofs.shelf.Lists.{getD-take, getD-drop, length-take-le, length-drop}
 use Rattle.std.proofs.shelf.Tests.{ltb-true, lt-ltb, eqb-true, eq-eqb, and-parts, and-from, or-cases, or-left, or-right}
 use lib.Dec.{eqb, ltb}
-use lib.ListN.{length, getD, take, drop}
+use lib.ListN.{length, take, drop}
 use mathlib.Core.Bool.{true, _&&_}
 use mathlib.Core.List.{List}
 use mathlib.Core.Logic.{inl, inr, ⊎-elim}

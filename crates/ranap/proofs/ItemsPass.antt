@@ -2,15 +2,13 @@
 use Prim.Native.Nat.{ℕ, _+_, _<_, _≤_}
 use Rattle.ranap.proofs.PairsPass.{at-pair}
 use Rattle.rules.specs.Frame.{pair-at, pairs-of, bytes-at, item-good, item-fault, read-item}
-use Rattle.rules.specs.declared.item.Pair.{Pair}
-use Rattle.rules.specs.declared.item.ReadItem.{ReadItem}
 use Rattle.std.proofs.shelf.Counted.{length-map-counting, map-counting-more}
 use Rattle.std.proofs.shelf.Lists.{drop-all}
 use Rattle.std.specs.declared.option.Option.the-variants.{Some, None}
 use lib.ListN.{drop}
 use mathlib.Core.Bool.{Bool, true, false, cond}
 use mathlib.Core.List.{List, [], _∷_, _++_, map, map-append}
-use mathlib.Core.Path.{_≡_, sym, ap, _∙_}
+use mathlib.Core.Path.{_≡_, ap, _∙_}
 use native.Mathlib.Omega.{arith}
 
 module _ (bs : List ℕ) (n i : ℕ) (l : i < n) where

@@ -1,5 +1,5 @@
 -- The search for the first bad item, told item by item.
-use Prim.Native.Nat.{ℕ, zero, suc, _+_, _<_, _≤_}
+use Prim.Native.Nat.{ℕ, zero, suc, _+_, _<_}
 use Rattle.ranap.proofs.ItemBytes.{shaped-from, shaped-good}
 use Rattle.ranap.proofs.ItemsPass.{item-on, item-here, no-item-fault}
 use Rattle.ranap.specs.Formed.{Placed, Shaped, offset-at}

@@ -1,10 +1,8 @@
 -- The search for the first bad pair, one pair further.
 use Prim.Native.Nat.{ℕ, _+_, _*_, _<_, _≤_}
 use Rattle.rules.specs.Frame.{pair-at, pairs-of, pair-good, end-of, pair-fault}
-use Rattle.rules.specs.declared.item.Pair.{Pair}
 use Rattle.std.proofs.shelf.Counted.{getD-map-counting, length-map-counting}
 use Rattle.std.proofs.shelf.Lists.{drop-more, drop-all}
-use Rattle.std.specs.declared.option.Option.{Option}
 use Rattle.std.specs.declared.option.Option.the-variants.{Some, None}
 use lib.ListN.{length, drop}
 use mathlib.Core.Bool.{Bool, true, false, cond}

@@ -1,8 +1,8 @@
 -- The search for the first bad pair, told pair by pair.
-use Prim.Native.Nat.{ℕ, zero, suc, _+_, _*_, _<_, _≤_}
+use Prim.Native.Nat.{ℕ, zero, suc, _+_, _*_, _<_}
 use Rattle.ranap.proofs.PairsPass.{fault-on, fault-here, no-fault}
 use Rattle.ranap.specs.Formed.{Placed, free-from, offset-at, length-at}
-use Rattle.rules.specs.Frame.{count-at, pair-at, pairs-of, pair-good, end-of, pair-fault}
+use Rattle.rules.specs.Frame.{count-at, pair-at, pairs-of, pair-good, pair-fault}
 use Rattle.std.proofs.shelf.Tests.{leb-true, le-leb, eqb-true, eq-eqb, and-parts, and-from, or-cases, or-left, or-right, both-ways}
 use Rattle.std.specs.declared.option.Option.{Option}
 use Rattle.std.specs.declared.option.Option.the-variants.{Some, None}
@@ -12,7 +12,7 @@ use lib.ListN.{length, drop}
 use mathlib.Core.Bool.{Bool, true, false, _&&_, _||_}
 use mathlib.Core.List.{List}
 use mathlib.Core.Logic.{_⊎_, inl, inr, ⊎-elim}
-use mathlib.Core.Path.{_≡_, refl, sym, ap, subst, _∙_}
+use mathlib.Core.Path.{_≡_, refl, sym, ap, subst}
 use native.Mathlib.Numerals.{add-one}
 use native.Mathlib.Omega.{arith}
 

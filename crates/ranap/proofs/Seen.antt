@@ -1,8 +1,8 @@
 -- The table of RAB IDs that were seen, and what the check tells of every item.
-use Prim.Native.Nat.{ℕ, zero, suc, _+_, _<_, _≤_}
+use Prim.Native.Nat.{ℕ, zero, suc, _+_, _<_}
 use Rattle.ranap.specs.Distinct.{rab-at, Repeats, Distinct, First-repeat, Checks}
 use Rattle.ranap.specs.Formed.{blank}
-use Rattle.rules.specs.Message.{rab-of, among, repeats-among, repeats, unless-repeated, distinct}
+use Rattle.rules.specs.Message.{among, repeats-among, repeats, unless-repeated, distinct}
 use Rattle.rules.specs.declared.item.Item.the-variants.{Assign}
 use Rattle.rules.specs.declared.item.ReadItem.{ReadItem}
 use Rattle.std.proofs.shelf.Lists.{at-drop-more, at-drop-all, getD-set-same, getD-set-other}
@@ -15,7 +15,7 @@ use lib.Dec.{eqb}
 use lib.ListN.{length, getD, set, drop}
 use mathlib.Core.Bool.{Bool, true, false, cond, _||_}
 use mathlib.Core.List.{List, [], _∷_}
-use mathlib.Core.Logic.{inl, inr, ⊎-elim}
+use mathlib.Core.Logic.{⊎-elim}
 use mathlib.Core.Path.{_≡_, refl, sym, ap, subst, _∙_}
 use native.Mathlib.Nat.{eq-or-lt-of-le, le-of-suc-le-suc, not-suc-le-zero}
 use native.Mathlib.Numerals.{add-one}

@@ -1,5 +1,5 @@
 -- Length, kind and count of a frame: the tests against the relations.
-use Prim.Native.Nat.{ℕ, _+_, _*_, _<_, _≤_}
+use Prim.Native.Nat.{ℕ, _+_, _*_}
 use Rattle.ranap.specs.Formed.{Starts, Counts}
 use Rattle.rules.specs.Frame.{byte, kind-at, count-at, count-good}
 use Rattle.rules.specs.Numbers.{frame-kind-number, frame-kind-of, fewest-items, most-items}
@@ -12,7 +12,7 @@ use lib.Dec.{leb, eqb}
 use lib.ListN.{length}
 use mathlib.Core.Bool.{Bool, true, false, cond, _&&_}
 use mathlib.Core.List.{List}
-use mathlib.Core.Path.{_≡_, refl, sym, ap, subst, _∙_}
+use mathlib.Core.Path.{_≡_, refl, sym, ap, _∙_}
 use native.Mathlib.Omega.{arith}
 
 number-back : (k : FrameKind) → frame-kind-of (frame-kind-number k) ≡ Some k

@@ -7,7 +7,7 @@ use Prim.Native.Nat.{ℕ, zero, suc, _+_, _*_, _<_, _≤_}
 use lib.ListN.{length, getD}
 use Rattle.std.specs.declared.result.Result.{Result}
 use Rattle.std.specs.declared.result.Result.the-variants.{Ok, Err}
-use Rattle.rules.specs.Frame.{byte, word, count-at, pair-at, end-of}
+use Rattle.rules.specs.Frame.{byte, word, count-at}
 use Rattle.rules.specs.Message.{Message, kind-of, place-of, items-of}
 use Rattle.rules.specs.Numbers.{frame-kind-number, fewest-items, most-items}
 use Rattle.rules.specs.declared.item.Flags.{Flags}

@@ -1,4 +1,4 @@
--- The deeds: each makes one report or none.
+-- The actions of which every call is made up: what each does to a RAB or to the queue, and what it reports.
 use mathlib.Core.Bool.{Bool, cond, not}
 use mathlib.Core.List.{[], _∷_, _++_, map}
 use Prim.Native.Nat.{ℕ}
@@ -28,9 +28,9 @@ abbrev pub failed : Cause → Request → Report
 failed c q = report kind.Failed (q .place) (q .rab) c
 
 module _ {m : Radio} where
-  -- a new grant takes the smallest number not held
+  -- a new grant takes the smallest number not held; where 0 to 62 are held, only 63 is left
   abbrev pub free-grant : State m → ℕ
-  free-grant x = first-from (λ g. eqb (m .holds (x .pool) g) 0) 0 64
+  free-grant x = first-from (λ g. eqb (m .holds (x .pool) g) 0) 0 63
 
   -- the RAB's waiting request, if it has one, fails
   abbrev pub fail-waiting : Cause → ℕ → ℕ → State m → Outcome m

@@ -1,8 +1,7 @@
 -- The six calls and the question: what is answered, reported and changed, for every input.
-use mathlib.Core.Bool.{Bool, true, false, cond}
+use mathlib.Core.Bool.{Bool, true, false}
 use mathlib.Core.List.{[]}
 use Prim.Native.Nat.{ℕ, zero, suc}
-use lib.Dec.{eqb}
 use lib.ListN.{length, set, replicate}
 use Rattle.std.specs.declared.option.Option.{Option}
 use Rattle.std.specs.declared.option.Option.the-variants.{Some, None}
@@ -14,7 +13,7 @@ use Rattle.rules.specs.Tables.{is-some, set-up-as, waits-as}
 use Rattle.rules.specs.Connections.{vacant}
 use Rattle.rules.specs.Events.{handled}
 use Rattle.rules.specs.Timers.{expires}
-use Rattle.rules.specs.Numbers.{timer-of}
+use Rattle.rules.specs.Numbers.{domain-of, timer-of}
 use Rattle.rules.specs.Message.{Message}
 use Rattle.rules.specs.Relocation.{start, execute, withdraw, ticket-at, free-ticket, runs}
 use Rattle.rules.specs.Refusals.{open-refusal, frame-refusal, expiry-refusal, start-refusal, execute-refusal, withdraw-refusal, question-refusal}
@@ -23,13 +22,8 @@ use Rattle.rules.specs.declared.bearer.RabState.{RabState}
 use Rattle.rules.specs.declared.bearer.RabState.the-variants.{Unknown, Waiting, SetUp, SetUpWaiting}
 use Rattle.rules.specs.declared.connection.ConnectionState.the-variants.{Open}
 use Rattle.rules.specs.declared.connection.Domain.{Domain}
-use Rattle.rules.specs.declared.connection.Domain.the-variants.{Cs, Ps}
 use Rattle.rules.specs.declared.connection.TicketId.{TicketId}
 use Rattle.rules.specs.declared.refusal.Refusal.{Refusal}
-
--- the domain that an accepted open names: 0 is CS, 1 is PS
-abbrev pub domain-named : ℕ → Domain
-domain-named d = cond (eqb d 0) Cs Ps
 
 -- what a call answers: its refusal, or what it has to say
 abbrev pub answer : {A : Type 0} → Option Refusal → A → Result A Refusal
@@ -54,10 +48,14 @@ module _ {m : Radio} where
   unless-refused None o x = o
   unless-refused (Some f) o x = silent x
 
-  -- open: the place gets a connection of the UE, in the state open
+  -- the place gets an open connection of the UE in a domain
+  abbrev pub opens : Option Domain → ℕ → ℕ → State m → Outcome m
+  opens None p u x = silent x
+  opens (Some d) p u x = silent (at-connections x (set (x .connections) p (record { state = Open; ue = u; domain = d })))
+
+  -- open: place, UE, code of the domain
   abbrev pub open-outcome : ℕ → ℕ → ℕ → State m → Outcome m
-  open-outcome p u d x =
-      unless-refused (open-refusal p u d x) (silent (at-connections x (set (x .connections) p (record { state = Open; ue = u; domain = domain-named d })))) x
+  open-outcome p u d x = unless-refused (open-refusal p u d x) (opens (domain-of d) p u x) x
 
   -- open answers nothing but that it was obeyed
   abbrev pub open-answer : ℕ → ℕ → ℕ → State m → Result (Unit {0}) Refusal

@@ -1,14 +1,12 @@
--- What is wrong with a set-up or modify item, and the terms that it asks under.
+-- What is wrong with a set-up or modify item, and the priority that it asks under.
 use mathlib.Core.Bool.{Bool, true, false, cond, not, _&&_, _||_}
-use Prim.Native.Nat.{ℕ, _+_}
+use Prim.Native.Nat.{ℕ}
 use lib.Dec.{eqb, leb, ltb}
-use lib.ListN.{length}
-use Rattle.std.specs.shelf.Lists.{kept-by}
 use Rattle.std.specs.declared.option.Option.{Option}
 use Rattle.std.specs.declared.option.Option.the-variants.{Some, None}
 use Rattle.rules.specs.Radio.{Radio}
 use Rattle.rules.specs.State.{State}
-use Rattle.rules.specs.Tables.{is-some, set-up-as}
+use Rattle.rules.specs.Tables.{is-some, known-in}
 use Rattle.rules.specs.declared.bearer.Bearer.{Bearer}
 use Rattle.rules.specs.declared.item.Assignment.{Assignment}
 use Rattle.rules.specs.declared.item.Flags.{Flags}
@@ -34,7 +32,7 @@ abbrev pub priority-in-use : Option Bearer → Priority
 priority-in-use None = default-priority
 priority-in-use (Some b) = b .priority
 
--- the terms that an item asks under
+-- the priority that an item asks under
 abbrev pub priority-of : Assignment → Option Bearer → Priority
 priority-of a own = cond (a .flags .priority) (effective (a .priority)) (priority-in-use own)
 
@@ -51,9 +49,9 @@ ill-combined a own = parts-missing (a .flags) own || (a .flags .priority && not 
 abbrev pub ill-valued : Assignment → Bool
 ill-valued a = a .flags .parameters && ((eqb (a .size) 0 || ltb 64 (a .size)) || (a .flags .priority && (eqb (a .priority .level) 0 || ltb 15 (a .priority .level))))
 
--- how many RABs are known: set up, or waiting for set-up
+-- how many RABs the controller knows
 abbrev pub known : {m : Radio} → State m → ℕ
-known x = length (x .bearers) + length (kept-by (λ q. not (is-some (set-up-as (q .place) (q .rab) (x .bearers)))) (x .queue))
+known x = known-in (x .bearers) (x .queue)
 
 -- cause 12: a set-up when 64 RABs are known
 abbrev pub table-full : {m : Radio} → Option Bearer → State m → Bool

@@ -1,4 +1,5 @@
--- The search for room: the set G, the candidates of a pre-emption, and the victims.
+-- The search for room: the admission set (the grants that count as given back while room is asked for),
+-- the candidates of a pre-emption, and the victims.
 use mathlib.Core.Bool.{Bool, cond, not, _&&_}
 use mathlib.Core.List.{List, [], _∷_, _++_}
 use Prim.Native.Nat.{ℕ, zero, suc}
@@ -14,7 +15,7 @@ use Rattle.rules.specs.Connections.{opened, state-at}
 use Rattle.rules.specs.declared.bearer.Bearer.{Bearer}
 use Rattle.rules.specs.declared.bearer.Request.{Request}
 
--- G is empty for a set-up, the RAB's own grant for a modification
+-- the admission set that a search begins with: empty for a set-up, the RAB's own grant for a modification
 abbrev pub own-grant : Option Bearer → ℕ → Bool
 own-grant None = nothing
 own-grant (Some b) = added nothing (b .grant)
@@ -47,14 +48,14 @@ module _ {m : Radio} where
   abbrev pub candidates : Request → State m → List Bearer
   candidates q x = candidates-from 14 q x
 
-  -- the candidates are added to G one by one: the shortest front that gives room
+  -- the candidates are added to the admission set one by one: the shortest front of them that gives room
   abbrev pub shortest-front : State m → (ℕ → Bool) → ℕ → List Bearer → Option (List Bearer)
   shortest-front x n s [] = None
   shortest-front x n s (b ∷ bs) =
       let rest = shortest-front x (added n (b .grant)) s bs in
       cond (m .admits (x .pool) (added n (b .grant)) s) (Some (b ∷ [])) (and-also b rest)
 
-  -- whom a request pre-empts: nobody if G gives room at once; there may be no way
+  -- whom a request pre-empts: nobody if there is room at once; none at all where no front gives room
   abbrev pub victims : Request → State m → Option (List Bearer)
   victims q x =
       let found = shortest-front x (own-grant (own q x)) (q .size) (candidates q x) in

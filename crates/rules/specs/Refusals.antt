@@ -10,7 +10,7 @@ use Rattle.std.specs.declared.option.Option.the-variants.{Some, None}
 use Rattle.std.specs.declared.result.Result.{Result}
 use Rattle.std.specs.declared.result.Result.the-variants.{Ok, Err}
 use Rattle.rules.specs.Radio.{Radio}
-use Rattle.rules.specs.Numbers.{domain-number, timer-of}
+use Rattle.rules.specs.Numbers.{domain-number, domain-of, timer-of}
 use Rattle.rules.specs.State.{State}
 use Rattle.rules.specs.Tables.{is-some}
 use Rattle.rules.specs.Connections.{closed, preparing, relocating, of-ue, any-connection, state-at}
@@ -32,7 +32,7 @@ abbrev pub first-reason : List (Bool × Reason) → ℕ → Option Refusal
 first-reason [] p = None
 first-reason (r ∷ rs) p = cond (r .0) (Some (refusal (r .1) p)) (first-reason rs p)
 
--- under 288 places
+-- a report list of under 288 records
 abbrev pub short : ℕ → Bool
 short n = ltb n 288
 
@@ -61,7 +61,7 @@ module _ {m : Radio} where
       (ltb 15 p, reason.BadPlace) ∷
       (not (closed (state-at p x)), reason.PlaceTaken) ∷
       (any-connection (λ c. of-ue u c && eqb (domain-number (c .domain)) d) (x .connections), reason.DomainTaken) ∷
-      (ltb 1 d, reason.BadCode) ∷
+      (not (is-some (domain-of d)), reason.BadCode) ∷
       (ue-relocating u x, reason.UeRelocating) ∷
       []) p
 

@@ -35,7 +35,7 @@ module _ {m : Radio} where
   free-own None x = x
   free-own (Some b) x = free-bearer b x
 
-  -- a request is done: what G names is given back in that order, its own grant first, and a new grant taken
+  -- a request is done: its own grant is given back first, then those of its victims in their order, and a new grant is taken
   unfoldable pub done : Request → List Bearer → State m → Outcome m
   done q vs x = then (each pre-empt vs (free-own (own q x) x)) (establish q)
 

@@ -1,4 +1,4 @@
--- The state of a controller over any radio pool, and what a deed gives: reports, and the state after it.
+-- The state of a controller over any radio pool, and what an action gives: reports, and the state after it.
 use mathlib.Core.List.{List, [], _∷_, _++_}
 use Prim.Native.Nat.{ℕ}
 use Rattle.std.specs.declared.option.Option.{Option}

@@ -1,8 +1,10 @@
 -- The tables of RABs: set-up RABs by place and RAB ID, waiting requests by arrival.
-use mathlib.Core.Bool.{Bool, true, false, cond, _&&_, _||_}
+use mathlib.Core.Bool.{not, Bool, true, false, cond, _&&_, _||_}
 use mathlib.Core.List.{List, [], _∷_}
-use Prim.Native.Nat.{ℕ, zero, suc}
+use Prim.Native.Nat.{ℕ, zero, suc, _+_}
 use lib.Dec.{eqb, ltb}
+use lib.ListN.{length}
+use Rattle.std.specs.shelf.Lists.{kept-by}
 use Rattle.std.specs.declared.option.Option.{Option}
 use Rattle.std.specs.declared.option.Option.the-variants.{Some, None}
 use Rattle.rules.specs.declared.bearer.Bearer.{Bearer}
@@ -62,6 +64,14 @@ without-bearer p r (b ∷ bs) = cond (of-rab p r b) bs (b ∷ without-bearer p r
 abbrev pub without-request : ℕ → ℕ → List Request → List Request
 without-request p r [] = []
 without-request p r (q ∷ qs) = cond (asks-for p r q) qs (q ∷ without-request p r qs)
+
+-- a request whose RAB is not set up: it waits for its set-up
+abbrev pub fresh : List Bearer → Request → Bool
+fresh bs q = not (is-some (set-up-as (q .place) (q .rab) bs))
+
+-- how many RABs are known: set up, or waiting for their set-up
+abbrev pub known-in : List Bearer → List Request → ℕ
+known-in bs qs = length bs + length (kept-by (fresh bs) qs)
 
 -- the first number from k on that passes, of n numbers; the one after them where none does
 unfoldable pub first-from : (ℕ → Bool) → ℕ → ℕ → ℕ

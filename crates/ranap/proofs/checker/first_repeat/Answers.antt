@@ -3,11 +3,11 @@ use Rattle.ranap.proofs.Seen.{blank-item, table-more}
 use Rattle.ranap.proofs.checker.first_repeat.Needs as need
 use Rattle.rules.specs.Message.{rab-of, among, repeats-among, unless-repeated}
 use Rattle.std.proofs.shelf.Lists.{at-drop-more, at-drop-all, length-set}
-use Rattle.std.specs.declared.option.Option.the-variants.{Some, None}
-use lib.ListN.{length, getD, drop, replicate}
+use Rattle.std.specs.declared.option.Option.the-variants.{Some}
+use lib.ListN.{getD, drop, replicate}
 use mathlib.Core.Bool.{true, false, cond}
 use mathlib.Core.List.{[], _∷_}
-use mathlib.Core.Path.{_≡_, refl, sym, ap, subst, _∙_}
+use mathlib.Core.Path.{_≡_, refl, sym, ap, _∙_}
 use native.Mathlib.Omega.{arith}
 
 blank-table : (n k : ℕ) → getD (replicate n false) k false ≡ false

@@ -1,10 +1,9 @@
-use Prim.Native.Nat.{_+_, _*_}
 use Rattle.ranap.proofs.Choosing.{some-test, none-test}
 use Rattle.ranap.proofs.PairsPass.{fault-on, fault-here, no-fault}
 use Rattle.ranap.proofs.reader.check_pairs.Needs as need
 use Rattle.ranap.specs.Steps.{unless-fault}
-use Rattle.rules.specs.Frame.{pair-at, pair-good, end-of, pairs-of, pair-fault, broken}
-use Rattle.std.specs.declared.result.Result.the-variants.{Ok, Err}
+use Rattle.rules.specs.Frame.{pair-at, pair-good, end-of}
+use Rattle.std.specs.declared.result.Result.the-variants.{Err}
 use lib.ListN.{length}
 use mathlib.Core.Path.{_≡_, sym, ap, _∙_}
 

@@ -2,10 +2,10 @@ use Prim.Native.Nat.{ℕ, _+_, _*_}
 use Rattle.ranap.proofs.PairsScan.{Pair-verdict, pairs-told}
 use Rattle.ranap.proofs.reader.read_body.Needs as need
 use Rattle.ranap.specs.Steps.{unless-fault}
-use Rattle.rules.specs.Frame.{pairs-of, pair-fault, count-at}
+use Rattle.rules.specs.Frame.{pairs-of, pair-fault}
 use Rattle.std.specs.declared.option.Option.{Option}
 use Rattle.std.specs.declared.option.Option.the-variants.{Some, None}
-use Rattle.std.specs.declared.result.Result.the-variants.{Ok, Err}
+use Rattle.std.specs.declared.result.Result.the-variants.{Ok}
 use lib.ListN.{length}
 use mathlib.Core.Path.{_≡_, refl, sym, ap, subst, _∙_}
 use native.Mathlib.Omega.{arith}

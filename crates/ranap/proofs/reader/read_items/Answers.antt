@@ -1,4 +1,4 @@
-use Prim.Native.Nat.{_+_, _<_, _≤_}
+use Prim.Native.Nat.{_+_}
 use Rattle.ranap.proofs.Choosing.{some-test, none-test}
 use Rattle.ranap.proofs.ItemsPass.{item-on, item-here, no-item-fault, items-more}
 use Rattle.ranap.proofs.reader.read_items.Needs as need
@@ -9,10 +9,9 @@ use Rattle.rules.specs.declared.item.ReadItem.{ReadItem}
 use Rattle.std.proofs.shelf.Counted.{length-map-counting}
 use Rattle.std.proofs.shelf.Lists.{length-map}
 use Rattle.std.proofs.shelf.Tests.{lt-ltb}
-use Rattle.std.specs.declared.option.Option.the-variants.{None}
 use Rattle.std.specs.declared.result.Result.the-variants.{Ok, Err}
 use lib.ListN.{length}
-use mathlib.Core.Bool.{true, false, cond}
+use mathlib.Core.Bool.{true, cond}
 use mathlib.Core.List.{[], _∷_, _++_, map}
 use mathlib.Core.Path.{_≡_, sym, ap, _∙_}
 use native.Mathlib.Omega.{arith}

@@ -1,11 +1,9 @@
-use Prim.Native.Nat.{_<_, _≤_}
+use Prim.Native.Nat.{_<_}
 use Rattle.ranap.proofs.items.Items.push.Needs as need
 use Rattle.std.proofs.shelf.Lists.{length-take-le, take-more-set}
 use Rattle.std.proofs.shelf.Tests.{lt-ltb}
 use borrow.Author.Needs.{needs}
-use lib.Dec.{ltb}
 use lib.ListN.{length, take}
-use mathlib.Core.Bool.{true}
 use mathlib.Core.Path.{_≡_, sym}
 use native.Mathlib.Omega.{arith}
 

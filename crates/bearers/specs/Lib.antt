@@ -1,0 +1,4 @@
+pub mod Order
+pub mod Search
+pub mod Spot
+pub mod View

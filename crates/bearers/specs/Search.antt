@@ -1,0 +1,11 @@
+-- Where the first of a list stands that passes a test.
+use mathlib.Core.Bool.{Bool, cond}
+use mathlib.Core.List.{List, [], _∷_}
+use Prim.Native.Nat.{ℕ, _+_}
+use Rattle.std.specs.declared.option.Option.{Option}
+use Rattle.std.specs.declared.option.Option.the-variants.{Some, None}
+
+-- the index of the first that passes, counted from k
+abbrev pub first-at : {X : Type 0} → (X → Bool) → ℕ → List X → Option ℕ
+first-at test k [] = None
+first-at test k (x ∷ xs) = cond (test x) (Some k) (first-at test (k + 1) xs)

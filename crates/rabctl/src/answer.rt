@@ -1,0 +1,68 @@
+// What a line is answered.
+ghost use Rattle.rabctl.specs.Answers.{is-error-of, is-ready-of, is-silent-of};
+ghost use mathlib.Core.Path.{_≡_};
+use crate::problem::Problem;
+use crate::problem::ProblemDisplay;
+use crate::words;
+use crate::words::ItemWords;
+use crate::words::ItemWordsDisplay;
+use ranap::Message;
+use rules::refusal::Refusal;
+use std::fmt;
+
+#[derive(Clone, Copy)]
+pub enum Answer {
+    Silence,
+    Ready,
+    Read(Message),
+    Refused(Refusal),
+    Error(Problem),
+}
+
+impl Answer {
+    pub fn is_error(&self) -> bool
+        ensures { λ r. ⌜ r ≡ is-error-of (now (self .entry)) ⌝ }
+    {
+        matches!(self, Answer::Error(_))
+    }
+
+    pub fn is_silent(&self) -> bool
+        ensures { λ r. ⌜ r ≡ is-silent-of (now (self .entry)) ⌝ }
+    {
+        matches!(self, Answer::Silence)
+    }
+
+    // Whether the cabinet was made.
+    pub fn is_ready(&self) -> bool
+        ensures { λ r. ⌜ r ≡ is-ready-of (now (self .entry)) ⌝ }
+    {
+        matches!(self, Answer::Ready)
+    }
+}
+
+// The answer without its line's number. A list of items goes on in lines of its own.
+pub impl fmt::Display for Answer as AnswerDisplay {
+    fn fmt<W: fmt::Write>(&self, f: &mut fmt::Formatter<W>) -> fmt::Result {
+        match self {
+            Answer::Silence => Ok(()),
+            Answer::Ready => f.write_str("cabinet: ready"),
+            Answer::Error(problem) => write!(f, "error: {problem}"),
+            Answer::Refused(refusal) => {
+                let reason = refusal.number();
+                let layer = refusal.layer();
+                let place = refusal.place;
+                let words = words::reason_words(refusal.reason);
+                write!(f, "refused: {reason} layer {layer} place {place} {words}")
+            }
+            Answer::Read(message) => {
+                let items = message.items();
+                let count = items.len();
+                write!(f, "frame: read, {count} items")?;
+                for item in items {
+                    write!(f, "\n  {}", ItemWords(*item))?;
+                }
+                Ok(())
+            }
+        }
+    }
+}

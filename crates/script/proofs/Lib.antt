@@ -1,0 +1,4 @@
+pub mod Gathering
+pub mod Pairs
+pub mod Splitting
+pub mod Values
