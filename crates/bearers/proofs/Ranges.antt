@@ -1,12 +1,12 @@
 -- Grant numbers and levels stay in their ranges.
-use Prim.Native.Nat.{ℕ, suc, _+_, _≤_}
+use Prim.Native.Nat.{ℕ, zero, suc, _<_, _≤_}
 use Rattle.bearers.specs.Order.{level-good, bearer-good, bearers-good, requests-good}
 use Rattle.rules.specs.Tables.{of-rab, asks-for, before, with-bearer, without-bearer, without-request}
 use Rattle.rules.specs.declared.bearer.Bearer.{Bearer}
 use Rattle.rules.specs.declared.bearer.Request.{Request}
 use Rattle.std.proofs.shelf.Tests.{and-parts, and-from}
 use Rattle.std.specs.shelf.Lists.{kept-by}
-use lib.ListN.{length}
+use lib.ListN.{length, getD}
 use mathlib.Core.Bool.{Bool, true, false, cond}
 use mathlib.Core.List.{List, [], _∷_, _++_}
 use mathlib.Core.Path.{_≡_, refl}
@@ -50,3 +50,9 @@ kept-step x ks n false l = omega arith
 pub kept-short : {X : Type 0} (test : X → Bool) (xs : List X) → length (kept-by test xs) ≤ length xs
 kept-short test [] = omega arith
 kept-short test (x ∷ xs) = kept-step x (kept-by test xs) (length xs) (test x) (kept-short test xs)
+
+-- each of a table is in range
+pub good-at : (bs : List Bearer) (i : ℕ) (d : Bearer) → bearers-good bs ≡ true → i < length bs → bearer-good (getD bs i d) ≡ true
+good-at [] i d g l = absurd (omega arith)
+good-at (b ∷ bs) zero d g l = and-parts (bearer-good b) (bearers-good bs) g .0
+good-at (b ∷ bs) (suc i) d g l = good-at bs i d (and-parts (bearer-good b) (bearers-good bs) g .1) (omega arith)

@@ -2,3 +2,4 @@ pub mod Order
 pub mod Search
 pub mod Spot
 pub mod View
+pub mod Places

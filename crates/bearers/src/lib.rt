@@ -1,4 +1,7 @@
-// The tables of RABs: those that are set up, and the requests that wait. No radio pool is in them.
+// The tables of the controller that have no radio pool in them: set-up RABs, waiting requests, connections.
+mod connections;
 mod tables;
 
+pub use connections::Connections;
+pub use connections::Which;
 pub use tables::RabTables;

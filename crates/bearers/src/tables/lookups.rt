@@ -1,4 +1,5 @@
 // Making the tables, and looking things up in them.
+ghost use Rattle.bearers.specs.Order.{bearer-good, bearers-good, requests-good};
 ghost use Rattle.bearers.specs.Search.{first-at};
 ghost use Rattle.bearers.specs.View.{bearers-of, queue-of};
 ghost use Rattle.rules.specs.Tables.{is-some, of-rab, asks-for, set-up-as, waits-as, fresh, known-in};
@@ -7,8 +8,8 @@ ghost use Rattle.std.specs.Vec.{made};
 ghost use Rattle.std.specs.shelf.Lists.{kept-by};
 ghost use lib.Dec.{leb};
 ghost use lib.ListN.{length};
-ghost use Prim.Native.Nat.{ℕ, _<_};
-ghost use mathlib.Core.Bool.{Bool, cond};
+ghost use Prim.Native.Nat.{ℕ, _<_, _≤_};
+ghost use mathlib.Core.Bool.{Bool, true, cond};
 ghost use mathlib.Core.List.{[]};
 ghost use mathlib.Core.Path.{_≡_};
 use crate::tables::RabTables;
@@ -108,21 +109,26 @@ impl RabTables {
 
     // The set-up RABs, by place and RAB ID.
     pub fn bearers(&self) -> &[Bearer]
-        ensures { λ r. ⌜ now r ≡ bearers-of (now (self .entry)) ⌝ }
+        ensures answer { λ r. ⌜ now r ≡ bearers-of (now (self .entry)) ⌝ }
+        ensures good { λ r. ⌜ bearers-good (now r) ≡ true ⌝ }
+        ensures few { λ r. ⌜ length (now r) ≤ 64 ⌝ }
     {
         self.bearers.as_slice()
     }
 
     // The waiting requests, by arrival.
     pub fn queue(&self) -> &[Request]
-        ensures { λ r. ⌜ now r ≡ queue-of (now (self .entry)) ⌝ }
+        ensures answer { λ r. ⌜ now r ≡ queue-of (now (self .entry)) ⌝ }
+        ensures good { λ r. ⌜ requests-good (now r) ≡ true ⌝ }
+        ensures few { λ r. ⌜ length (now r) ≤ 64 ⌝ }
     {
         self.queue.as_slice()
     }
 
     // The RAB as it is set up, if it is.
     pub fn bearer(&self, place: u8, rab: u8) -> Option<Bearer>
-        ensures { λ r. ⌜ r ≡ set-up-as place rab (bearers-of (now (self .entry))) ⌝ }
+        ensures answer { λ r. ⌜ r ≡ set-up-as place rab (bearers-of (now (self .entry))) ⌝ }
+        ensures good { λ r. ⌜ found r (λ b. bearer-good b ≡ true) ⌝ }
     {
         match index_of(self.bearers.as_slice(), place, rab) {
             Some(i) => Some(self.bearers[i]),
