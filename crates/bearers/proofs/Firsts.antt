@@ -1,6 +1,6 @@
 -- The first entry of a RAB: where it stands, what it is, and the table without it.
 use Prim.Native.Nat.{ℕ, zero, suc, _+_}
-use Rattle.bearers.specs.Search.{first-at}
+use Rattle.bearers.specs.Search.{first-at, first-of}
 use Rattle.rules.specs.Tables.{is-some, of-rab, asks-for, set-up-as, waits-as, without-bearer, without-request}
 use Rattle.rules.specs.declared.bearer.Bearer.{Bearer}
 use Rattle.rules.specs.declared.bearer.Request.{Request}
@@ -13,13 +13,8 @@ use mathlib.Core.List.{List, [], _∷_}
 use mathlib.Core.Path.{_≡_, refl, sym, ap, subst, _∙_}
 use native.Mathlib.Omega.{arith}
 
--- the first that passes
-abbrev first-of : {X : Type 0} → (X → Bool) → List X → Option X
-first-of test [] = None
-first-of test (x ∷ xs) = cond (test x) (Some x) (first-of test xs)
-
 -- the list without it
-abbrev all-but : {X : Type 0} → (X → Bool) → List X → List X
+abbrev pub all-but : {X : Type 0} → (X → Bool) → List X → List X
 all-but test [] = []
 all-but test (x ∷ xs) = cond (test x) xs (x ∷ all-but test xs)
 
@@ -64,11 +59,11 @@ waits-first : (p r : ℕ) (qs : List Request) → waits-as p r qs ≡ first-of (
 waits-first p r [] = refl
 waits-first p r (q ∷ qs) = ap (λ o. cond (asks-for p r q) (Some q) o) (waits-first p r qs)
 
-bearers-but : (p r : ℕ) (bs : List Bearer) → without-bearer p r bs ≡ all-but (of-rab p r) bs
+pub bearers-but : (p r : ℕ) (bs : List Bearer) → without-bearer p r bs ≡ all-but (of-rab p r) bs
 bearers-but p r [] = refl
 bearers-but p r (b ∷ bs) = ap (λ ys. cond (of-rab p r b) bs (b ∷ ys)) (bearers-but p r bs)
 
-requests-but : (p r : ℕ) (qs : List Request) → without-request p r qs ≡ all-but (asks-for p r) qs
+pub requests-but : (p r : ℕ) (qs : List Request) → without-request p r qs ≡ all-but (asks-for p r) qs
 requests-but p r [] = refl
 requests-but p r (q ∷ qs) = ap (λ ys. cond (asks-for p r q) qs (q ∷ ys)) (requests-but p r qs)
 

@@ -6,3 +6,4 @@ pub mod Known
 pub mod Ranges
 pub mod Spots
 pub mod Keeps
+pub mod Mapped

@@ -78,7 +78,6 @@ set-with k j b (a ∷ as′) none =
     let n = none-head (b .place) (b .rab) a as′ none in
     set-in-step k j b a as′ (before b a) (n .0) (set-with k j b as′ (n .1))
 
-
 -- the order of the table
 pub before-trans : (a b c : Bearer) → before a b ≡ true → before b c ≡ true → before a c ≡ true
 before-trans a b c p q = grind (arith, tells)

@@ -100,7 +100,6 @@ apart-append q (a ∷ qs) ok none =
     let h : waits-as (a .place) (a .rab) qs ≡ None = ok .0 in
     (grind (arith, tells), apart-append q qs (ok .1) (n .1))
 
-
 -- the test of it
 pub apart-from : (qs : List Request) → apart qs ≡ true → Apart qs
 apart-from [] e = tt

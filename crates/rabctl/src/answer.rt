@@ -1,5 +1,5 @@
 // What a line is answered.
-ghost use Rattle.rabctl.specs.Answers.{is-error-of, is-ready-of, is-silent-of};
+ghost use Rattle.rabctl.specs.Replies.{is-error, is-silent};
 ghost use mathlib.Core.Path.{_≡_};
 use crate::problem::Problem;
 use crate::problem::ProblemDisplay;
@@ -16,27 +16,24 @@ pub enum Answer {
     Ready,
     Read(Message),
     Refused(Refusal),
+    // The size of a grant.
+    Held(u8),
+    // Whether there is room.
+    Room(bool),
     Error(Problem),
 }
 
 impl Answer {
     pub fn is_error(&self) -> bool
-        ensures { λ r. ⌜ r ≡ is-error-of (now (self .entry)) ⌝ }
+        ensures { λ r. ⌜ r ≡ is-error (now (self .entry)) ⌝ }
     {
         matches!(self, Answer::Error(_))
     }
 
     pub fn is_silent(&self) -> bool
-        ensures { λ r. ⌜ r ≡ is-silent-of (now (self .entry)) ⌝ }
+        ensures { λ r. ⌜ r ≡ is-silent (now (self .entry)) ⌝ }
     {
         matches!(self, Answer::Silence)
-    }
-
-    // Whether the cabinet was made.
-    pub fn is_ready(&self) -> bool
-        ensures { λ r. ⌜ r ≡ is-ready-of (now (self .entry)) ⌝ }
-    {
-        matches!(self, Answer::Ready)
     }
 }
 
@@ -46,6 +43,9 @@ pub impl fmt::Display for Answer as AnswerDisplay {
         match self {
             Answer::Silence => Ok(()),
             Answer::Ready => f.write_str("cabinet: ready"),
+            Answer::Held(size) => write!(f, "grant: {size}"),
+            Answer::Room(true) => f.write_str("room: yes"),
+            Answer::Room(false) => f.write_str("room: no"),
             Answer::Error(problem) => write!(f, "error: {problem}"),
             Answer::Refused(refusal) => {
                 let reason = refusal.number();

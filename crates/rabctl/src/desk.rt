@@ -1,85 +1,91 @@
-// The run of a script: whether its cabinet stands, and whether a line was an error.
-ghost use Rattle.rabctl.specs.Answers.{is-error-of, is-ready-of, frame-said, Suits, Answered};
-ghost use Rattle.rabctl.specs.Turns.{turn-of};
-ghost use Rattle.rabctl.specs.declared.answer.Answer.the-variants.{Error};
+// The run of a script: the pool of its cabinet, and whether a line was an error.
+ghost use Rattle.rabctl.specs.Pools.{standing};
+ghost use Rattle.rabctl.specs.Replies.{is-error, meant, error, made-by, reply, after, line-reply, after-line};
 ghost use Rattle.rabctl.specs.declared.problem.Problem.the-variants.{NoMemory};
-ghost use Rattle.rules.specs.Frame.{received as received-frame};
 ghost use Rattle.script.specs.Saying.{said};
-ghost use Rattle.script.specs.Script.{meaning};
-ghost use Rattle.std.specs.declared.option.Option.the-variants.{Some};
-ghost use mathlib.Core.Bool.{true, false, _||_};
+ghost use Rattle.script.specs.Script.{meaning, may-take-memory};
+ghost use Rattle.std.specs.declared.option.Option.the-variants.{None};
+ghost use mathlib.Core.Bool.{false, _||_};
 ghost use mathlib.Core.Path.{_≡_};
 use crate::answer::Answer;
+use crate::pool::Pool;
 use crate::problem::Problem;
-use crate::turn;
-use crate::turn::Turn;
+use crate::reply;
 use script::Line;
 use std::alloc::Global;
 
 #[derive(Clone, Copy)]
 pub struct Desk {
-    ready: bool,
+    // None before the cabinet stands.
+    pool: Option<Pool>,
     failed: bool,
 }
 
-fn received(frame: &[u8]) -> Answer
-    ensures { λ r. ⌜ frame-said r ≡ Some (received-frame (now (frame .entry))) ⌝ }
+// The pool that a line makes where none stands.
+fn made_by(line: &Line) -> Option<Pool>
+    ensures { λ r. ⌜ standing r ≡ made-by (said (now (line .entry))) ⌝ }
 {
-    match ranap::receive(frame) {
-        Ok(message) => Answer::Read(message),
-        Err(refusal) => Answer::Refused(refusal),
-    }
-}
-
-fn carried_out(ready: bool, line: &Line) -> Answer
-    ensures { λ r. ⌜ Suits (turn-of ready (said (now (line .entry)))) (said (now (line .entry))) r ⌝ }
-{
-    match turn::next_turn(ready, line) {
-        Turn::Skip => Answer::Silence,
-        Turn::MakeCabinet => Answer::Ready,
-        Turn::Refuse(problem) => Answer::Error(problem),
-        Turn::ReadFrame => match line {
-            Line::Frame(bytes) => received(bytes.as_slice()),
-            _ => unreachable(),
-        },
-    }
-}
-
-fn answered(heap: Global, ready: bool, line: &[u8]) -> Answer
-    ensures { λ r. ⌜ ((r ≡ Error NoMemory → ⊥) → Answered ready (meaning (now (line .entry))) r) ⌝ }
-{
-    match script::parse(heap, line) {
-        Ok(Ok(said)) => carried_out(ready, &said),
-        Ok(Err(fault)) => Answer::Error(Problem::Faulty(fault)),
-        Err(_) => Answer::Error(Problem::NoMemory),
+    match line {
+        Line::Cabinet { pool, .. } => Some(Pool::new(*pool)),
+        _ => None,
     }
 }
 
 impl Desk {
     pub fn new() -> Desk
-        ensures { λ r. ⌜ r .ready ≡ false ⌝ ∗ ⌜ r .failed ≡ false ⌝ }
+        ensures pool { λ r. ⌜ standing (r .pool) ≡ None ⌝ }
+        ensures failed { λ r. ⌜ r .failed ≡ false ⌝ }
     {
         Desk {
-            ready: false,
+            pool: None,
             failed: false,
         }
     }
 
+    // Whether any line so far was an error.
     pub fn failed(&self) -> bool
         ensures { λ r. ⌜ r ≡ now (self .entry) .failed ⌝ }
     {
         self.failed
     }
 
-    pub fn answer(&mut self, heap: Global, line: &[u8]) -> Answer
-        ensures answer { λ r. ⌜ ((r ≡ Error NoMemory → ⊥) → Answered (now (self .entry) .ready) (meaning (now (line .entry))) r) ⌝ }
-        ensures ready { λ r. ⌜ now (self .exit) .ready ≡ (now (self .entry) .ready || is-ready-of r) ⌝ }
-        ensures failed { λ r. ⌜ now (self .exit) .failed ≡ (now (self .entry) .failed || is-error-of r) ⌝ }
+    // Answers what a line says, and keeps the pool that it makes.
+    fn carry_out(&mut self, line: &Line) -> Answer
+        ensures answer { λ r. ⌜ meant r ≡ reply (standing (now (self .entry) .pool)) (said (now (line .entry))) ⌝ }
+        ensures pool { λ _. ⌜ standing (now (self .exit) .pool) ≡ after (standing (now (self .entry) .pool)) (said (now (line .entry))) ⌝ }
+        ensures failed { λ _. ⌜ now (self .exit) .failed ≡ now (self .entry) .failed ⌝ }
     {
-        let answer = answered(heap, self.ready, line);
-        if answer.is_ready() {
-            self.ready = true;
+        match &self.pool {
+            Some(pool) => reply::at_cabinet(pool, line),
+            None => {
+                self.pool = made_by(line);
+                reply::before_cabinet(line)
+            }
         }
+    }
+
+    // The same for a line as it is read. Only a frame line or a room line can fail for want of memory.
+    fn carry_out_text(&mut self, heap: Global, line: &[u8]) -> Answer
+        ensures answer { λ r. ⌜ ((meant r ≡ error NoMemory → ⊥) → meant r ≡ line-reply (standing (now (self .entry) .pool)) (meaning (now (line .entry)))) ⌝ }
+        ensures memory { λ r. ⌜ (may-take-memory (now (line .entry)) ≡ false → meant r ≡ line-reply (standing (now (self .entry) .pool)) (meaning (now (line .entry)))) ⌝ }
+        ensures pool { λ _. ⌜ standing (now (self .exit) .pool) ≡ after-line (standing (now (self .entry) .pool)) (meaning (now (line .entry))) ⌝ }
+        ensures failed { λ _. ⌜ now (self .exit) .failed ≡ now (self .entry) .failed ⌝ }
+    {
+        match script::parse(heap, line) {
+            Ok(Ok(said)) => self.carry_out(&said),
+            Ok(Err(fault)) => Answer::Error(Problem::Faulty(fault)),
+            Err(_) => Answer::Error(Problem::NoMemory),
+        }
+    }
+
+    // The answer to a line, with a note of whether it is an error.
+    pub fn answer(&mut self, heap: Global, line: &[u8]) -> Answer
+        ensures answer { λ r. ⌜ ((meant r ≡ error NoMemory → ⊥) → meant r ≡ line-reply (standing (now (self .entry) .pool)) (meaning (now (line .entry)))) ⌝ }
+        ensures memory { λ r. ⌜ (may-take-memory (now (line .entry)) ≡ false → meant r ≡ line-reply (standing (now (self .entry) .pool)) (meaning (now (line .entry)))) ⌝ }
+        ensures pool { λ _. ⌜ standing (now (self .exit) .pool) ≡ after-line (standing (now (self .entry) .pool)) (meaning (now (line .entry))) ⌝ }
+        ensures failed { λ r. ⌜ now (self .exit) .failed ≡ (now (self .entry) .failed || is-error r) ⌝ }
+    {
+        let answer = self.carry_out_text(heap, line);
         if answer.is_error() {
             self.failed = true;
         }

@@ -3,8 +3,9 @@
 mod answer;
 mod desk;
 mod play;
+mod pool;
 mod problem;
-mod turn;
+mod reply;
 mod words;
 
 use std::env;

@@ -21,8 +21,6 @@ pub enum Unbuilt {
     Execute,
     Withdraw,
     Rab,
-    Grant,
-    Room,
     Show,
 }
 
@@ -34,8 +32,6 @@ fn word(call: Unbuilt) -> &'static str {
         Unbuilt::Execute => "execute",
         Unbuilt::Withdraw => "withdraw",
         Unbuilt::Rab => "rab",
-        Unbuilt::Grant => "grant",
-        Unbuilt::Room => "room",
         Unbuilt::Show => "show",
     }
 }

@@ -1,7 +1,8 @@
 // What stands at each place, and what a UE has.
 ghost use Rattle.bearers.specs.Places.{connections-of, such};
-ghost use Rattle.rules.specs.Connections.{closed, relocating, vacant, of-ue, any-connection};
+ghost use Rattle.rules.specs.Connections.{closed, relocating, reopened, moved-to, vacant, of-ue, any-connection, changed};
 ghost use lib.ListN.{getD, set, replicate};
+ghost use mathlib.Core.Bool.{cond};
 ghost use mathlib.Core.Path.{_≡_};
 use crate::connections::Connections;
 use crate::connections::Which;
@@ -54,6 +55,23 @@ fn closed_place() -> Connection
     }
 }
 
+// A connection whose relocation has ended if it is the UE's.
+fn reopened_for(c: Connection, ue: u32) -> Connection
+    ensures { λ r. ⌜ r ≡ cond (of-ue ue c) (moved-to (reopened (c .state)) c) c ⌝ }
+{
+    if !is_of_ue(&c, ue) {
+        return c;
+    }
+    match c.state {
+        ConnectionState::Preparing | ConnectionState::Prepared => Connection {
+            state: ConnectionState::Open,
+            ue: c.ue,
+            domain: c.domain,
+        },
+        ConnectionState::Closed | ConnectionState::Open | ConnectionState::Executed => c,
+    }
+}
+
 impl Connections {
     // All places closed.
     pub fn new() -> Connections
@@ -73,6 +91,13 @@ impl Connections {
         } else {
             closed_place()
         }
+    }
+
+    // Whether the connection at a place is the UE's.
+    pub fn is_of(&self, place: u8, ue: u32) -> bool
+        ensures { λ r. ⌜ r ≡ of-ue ue (getD (connections-of (now (self .entry))) place vacant) ⌝ }
+    {
+        is_of_ue(&self.at(place), ue)
     }
 
     // The connection is put at a place; over 15 there is none.
@@ -101,5 +126,14 @@ impl Connections {
             }
         }
         false
+    }
+
+    // The UE's relocation has ended: its connections are open again, but for executed ones.
+    pub fn reopen(&mut self, ue: u32)
+        ensures { λ _. ⌜ connections-of (now (self .exit)) ≡ changed ue reopened (connections-of (now (self .entry))) ⌝ }
+    {
+        for i in 0..16usize {
+            self.all[i] = reopened_for(self.all[i], ue);
+        }
     }
 }

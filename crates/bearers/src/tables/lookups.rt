@@ -1,8 +1,8 @@
 // Making the tables, and looking things up in them.
 ghost use Rattle.bearers.specs.Order.{bearer-good, bearers-good, requests-good};
-ghost use Rattle.bearers.specs.Search.{first-at};
+ghost use Rattle.bearers.specs.Search.{first-at, first-of};
 ghost use Rattle.bearers.specs.View.{bearers-of, queue-of};
-ghost use Rattle.rules.specs.Tables.{is-some, of-rab, asks-for, set-up-as, waits-as, fresh, known-in};
+ghost use Rattle.rules.specs.Tables.{is-some, of-rab, asks-for, stands-at, waits-at, set-up-as, waits-as, fresh, known-in};
 ghost use Rattle.std.specs.Slices.{found};
 ghost use Rattle.std.specs.Vec.{made};
 ghost use Rattle.std.specs.shelf.Lists.{kept-by};
@@ -161,5 +161,29 @@ impl RabTables {
             return false;
         }
         self.known() >= 64
+    }
+
+    // The first set-up RAB of a place, by RAB ID.
+    pub fn bearer_at(&self, place: u8) -> Option<Bearer>
+        ensures { λ r. ⌜ r ≡ first-of (stands-at place) (bearers-of (now (self .entry))) ⌝ }
+    {
+        for b in self.bearers.as_slice() {
+            if b.place == place {
+                return Some(*b);
+            }
+        }
+        None
+    }
+
+    // The first waiting request of a place, by arrival.
+    pub fn request_at(&self, place: u8) -> Option<Request>
+        ensures { λ r. ⌜ r ≡ first-of (waits-at place) (queue-of (now (self .entry))) ⌝ }
+    {
+        for q in self.queue.as_slice() {
+            if q.place == place {
+                return Some(*q);
+            }
+        }
+        None
     }
 }

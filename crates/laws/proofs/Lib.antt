@@ -1,0 +1,15 @@
+pub mod Standing
+pub mod Candidates
+pub mod Fronts
+pub mod Firsts
+pub mod Leaving
+pub mod Anew
+pub mod Turns
+pub mod Losses
+pub mod Outcomes
+pub mod Less
+pub mod Reasons
+pub mod Given
+pub mod Smallest
+pub mod Waiting
+pub mod Granted
