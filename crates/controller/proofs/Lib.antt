@@ -9,3 +9,5 @@ pub mod Supersedes
 pub mod ByKind
 pub mod Cancels
 pub mod Leaving
+mod Waiters
+mod Obeys

@@ -5,3 +5,4 @@ pub mod Chosen
 pub mod Due
 pub mod Cancel
 pub mod View
+pub mod Listed

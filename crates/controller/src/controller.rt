@@ -7,13 +7,18 @@ use bearers::Tickets;
 mod actions;
 mod assign;
 mod checks;
+mod frames;
 mod items;
 mod iu_release;
+mod making;
+mod opening;
 mod preemption;
+mod questions;
 mod queue;
 mod release;
 mod relocation;
 mod request;
+mod timers;
 
 pub struct Controller<P: RadioPool> {
     number: u16,

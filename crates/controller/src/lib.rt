@@ -1,5 +1,6 @@
 // The RAB controller over any radio pool.
 mod controller;
+mod refusing;
 mod victims;
 mod writing;
 
