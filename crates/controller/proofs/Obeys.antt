@@ -91,9 +91,9 @@ answers (Some r) e a = let z : _≡_ {A = ℕ} 0 1 = cc in absurd (omega arith)
 pub long-list : (n : ℕ) (f : Option Refusal) → unless-short n f ≡ None → 288 ≤ n
 long-list n f e = by-test (short n) refl e
   where
-  by-test : (t : Bool) → short n ≡ t → cond t (Some (refusal reason.ShortList 0)) f ≡ None → 288 ≤ n
-  by-test true s e = let z : _≡_ {A = ℕ} 0 1 = cc in absurd (omega arith)
-  by-test false s e = ltb-false n 288 s
+    by-test : (t : Bool) → short n ≡ t → cond t (Some (refusal reason.ShortList 0)) f ≡ None → 288 ≤ n
+    by-test true s e = let z : _≡_ {A = ℕ} 0 1 = cc in absurd (omega arith)
+    by-test false s e = ltb-false n 288 s
 
 -- a frame whose message nothing stands against
 pub frame-answers : {m : Radio} {x y : State m} {k : ℕ} {before after : List Report} (rd : Result Message Refusal) (g : Message) → Ok g ≡ rd →

@@ -1,1 +1,4 @@
 pub mod Pools
+pub mod Steps
+pub mod Runs
+pub mod Pitfalls

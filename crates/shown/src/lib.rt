@@ -3,6 +3,8 @@ ghost use Rattle.admission.specs.Rate.{rates};
 ghost use Rattle.admission.specs.Tree.{codes};
 ghost use Rattle.admission.specs.Undone.{Give-undoes-take};
 ghost use Rattle.shown.specs.Pools.{Shown-pools};
+ghost use Rattle.shown.specs.Runs.{Shown-runs};
+ghost use Rattle.shown.specs.Pitfalls.{Shown-pitfalls};
 use admission::CodeRadio;
 use admission::CodeTree;
 use admission::RatePool;
@@ -12,6 +14,16 @@ use admission::give_undoes_take;
 // Carries the worked examples of the radio pools.
 pub fn shown_pools()
     ensures { λ _. ⌜ Shown-pools ⌝ }
+{}
+
+// Carries the worked runs of the controller's rules.
+pub fn shown_runs()
+    ensures { λ _. ⌜ Shown-runs ⌝ }
+{}
+
+// Carries worked cases that are easily mistaken.
+pub fn shown_pitfalls()
+    ensures { λ _. ⌜ Shown-pitfalls ⌝ }
 {}
 
 // Carries for both pools that a give undoes a take.

@@ -2,7 +2,7 @@
 ghost use Rattle.admission.specs.Member.{member};
 ghost use Rattle.controller.specs.View.{view};
 ghost use Rattle.rules.specs.Calls.{rab-state, size-in-use, question};
-ghost use Rattle.rules.specs.Connections.{state-at};
+ghost use Rattle.rules.specs.Connections.{at-place};
 ghost use Rattle.rules.specs.Tables.{is-some, set-up-as, waits-as};
 ghost use mathlib.Core.Path.{_≡_};
 use crate::controller::Controller;
@@ -12,7 +12,7 @@ use admission::RadioPool;
 use rules::bearer::Bearer;
 use rules::bearer::RabState;
 use rules::bearer::Request;
-use rules::connection::ConnectionState;
+use rules::connection::Connection;
 use rules::refusal::Reason;
 use rules::refusal::Refusal;
 
@@ -40,17 +40,28 @@ impl<P: RadioPool> Controller<P> {
         if self.is_bad_place(place) {
             return Err(at_place(Reason::BadPlace, place));
         }
-        Ok(state_of(
-            self.rabs.bearer(place, rab),
-            self.rabs.request(place, rab),
-        ))
+        Ok(state_of(self.rabs.bearer(place, rab), self.rabs.request(place, rab)))
     }
 
-    // The state of a place; over 15 it is closed.
-    pub fn place(&self, place: u8) -> ConnectionState
-        ensures { λ r. ⌜ r ≡ state-at place (view radio state (now (self .entry))) ⌝ }
+    // What stands at a place; over 15 it is closed.
+    pub fn connection(&self, place: u8) -> Connection
+        ensures { λ r. ⌜ r ≡ at-place place (view radio state (now (self .entry))) ⌝ }
     {
-        self.connections.at(place).state
+        self.connections.at(place)
+    }
+
+    // The set-up RABs, by place and RAB ID.
+    pub fn bearers(&self) -> &[Bearer]
+        ensures { λ r. ⌜ now r ≡ view radio state (now (self .entry)) .bearers ⌝ }
+    {
+        self.rabs.bearers()
+    }
+
+    // The waiting requests, by arrival.
+    pub fn queue(&self) -> &[Request]
+        ensures { λ r. ⌜ now r ≡ view radio state (now (self .entry)) .queue ⌝ }
+    {
+        self.rabs.queue()
     }
 
     // The size of a grant, or 0 where it is not held.

@@ -15,9 +15,9 @@ unfolding given-back
 loop-grant-again g c =
     let m = g .P·RadioPool .radio in
     let k = c .loop-grant .grant in
-    let y = g .P·RadioPool .state (c .args .pool .now) in
-    ( c .give .ensures .state ∙ ap (λ z. after-give m z k) (c .loop-grant .inv .0) ∙ ap (λ n. given-back m n y) (sym (add-one k))
-    , omega (arith, c .loop-grant-test .taken)
+    let y = g .P·RadioPool .state (c .args .pool .now) in (
+      c .give .ensures .state ∙ ap (λ z. after-give m z k) (c .loop-grant .inv .0) ∙ ap (λ n. given-back m n y) (sym (add-one k)),
+      omega (arith, c .loop-grant-test .taken),
     )
 
 pub returns : need.returns
