@@ -20,6 +20,7 @@ mod relocation;
 mod request;
 mod timers;
 
+#[derive(Drop)]
 pub struct Controller<P: RadioPool> {
     number: u16,
     connections: Connections,
