@@ -1,6 +1,7 @@
 -- What a request that is done leaves in the pool and in the table.
+use Rattle.laws.proofs.Failing.{failed-pool, failed-bearers}
 use mathlib.Core.Path.{_≡_, refl, sym, ap, subst, _∙_}
-use mathlib.Core.Bool.{Bool, true, false, cond, not, _&&_}
+use mathlib.Core.Bool.{true, cond, not, _&&_}
 use mathlib.Core.Logic.{inl, inr, ⊎-elim}
 use mathlib.Core.List.{List, [], _∷_}
 use Prim.Native.Nat.{ℕ}
@@ -12,14 +13,13 @@ use Rattle.std.specs.declared.option.Option.{Option}
 use Rattle.std.specs.declared.option.Option.the-variants.{Some, None}
 use Rattle.rules.specs.Grants.{nothing}
 use Rattle.rules.specs.Radio.{Radio, after-give}
-use Rattle.rules.specs.State.{State, silent, tell, at-queue, each}
+use Rattle.rules.specs.State.{State, at-queue, each}
 use Rattle.rules.specs.Tables.{is-some, set-up-as, waits-as, without-bearer, without-request}
 use Rattle.rules.specs.Actions.{report, free-grant}
 use Rattle.rules.specs.Preemption.{own}
 use Rattle.rules.specs.Request.{pre-empt, free-own, done}
 use Rattle.rules.specs.declared.bearer.Bearer.{Bearer}
 use Rattle.rules.specs.declared.bearer.Request.{Request}
-use Rattle.rules.specs.declared.report.Report.{Report}
 use Rattle.rules.specs.declared.report.ReportKind.the-variants as kind
 use Rattle.rules.specs.declared.report.Cause.the-variants as cause
 use Rattle.bearers.specs.Order.{ascending}
@@ -67,14 +67,6 @@ same-all k j (v ∷ vs) bs ok h =
     once-lookup (v .place) (v .rab) k j bs ok ∙ ap (λ t. cond t None (set-up-as k j bs)) (other-key (v .place) (v .rab) k j (h v (inl refl)))
 
 module _ {m : Radio} where
-  failed-pool : (t : Bool) (o : Report) (x : State m) (qs : List Request) → cond t (tell o (at-queue x qs)) (silent x) .state .pool ≡ x .pool
-  failed-pool true o x qs = refl
-  failed-pool false o x qs = refl
-
-  failed-bearers : (t : Bool) (o : Report) (x : State m) (qs : List Request) → cond t (tell o (at-queue x qs)) (silent x) .state .bearers ≡ x .bearers
-  failed-bearers true o x qs = refl
-  failed-bearers false o x qs = refl
-
   -- one victim goes
   gone-pool : (b : Bearer) (x : State m) → pre-empt b x .state .pool ≡ after-give m (x .pool) (b .grant)
   gone-pool b x =

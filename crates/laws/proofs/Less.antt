@@ -1,8 +1,9 @@
 -- A modification to the size in use or less is done at its turn.
+use Rattle.laws.proofs.Failing.{failed-pool, failed-bearers}
 use mathlib.Core.Path.{_≡_, refl, sym, ap, subst, _∙_}
 use mathlib.Core.Bool.{Bool, true, false, cond, _&&_, _||_}
 use mathlib.Core.Logic.{⊎-elim}
-use mathlib.Core.List.{List, [], _∷_, _++_}
+use mathlib.Core.List.{[], _∷_, _++_}
 use Prim.Native.Nat.{ℕ, _<_}
 use native.Mathlib.Omega.{arith}
 use lib.Dec.{eqb, ltb}
@@ -11,7 +12,7 @@ use Rattle.std.proofs.shelf.Tests.{and-cases, or-parts}
 use Rattle.std.specs.declared.option.Option.the-variants.{Some, None}
 use Rattle.rules.specs.Grants.{nothing, added}
 use Rattle.rules.specs.Radio.{Radio, Lawful}
-use Rattle.rules.specs.State.{State, silent, tell, at-queue}
+use Rattle.rules.specs.State.{State}
 use Rattle.rules.specs.Tables.{set-up-as, without-request}
 use Rattle.rules.specs.Actions.{report, done-report, keep-size}
 use Rattle.rules.specs.Checks.{ill-combined, ill-valued, table-full, fault-of}
@@ -20,7 +21,6 @@ use Rattle.rules.specs.Request.{request-of, supersede, done, done-or-not, ask, 
 use Rattle.rules.specs.declared.bearer.Bearer.{Bearer}
 use Rattle.rules.specs.declared.bearer.Request.{Request}
 use Rattle.rules.specs.declared.item.Assignment.{Assignment}
-use Rattle.rules.specs.declared.report.Report.{Report}
 use Rattle.rules.specs.declared.report.ReportKind.the-variants as kind
 use Rattle.rules.specs.declared.report.Cause.{Cause}
 use Rattle.rules.specs.declared.report.Cause.the-variants as cause
@@ -71,14 +71,6 @@ module _ {m : Radio} (lawful : (y : m .State) → m .sound y → Lawful m y) (p 
   done-alone = subst (Done-alone asked x) (sym is-done) (alone asked x)
 
 module _ {m : Radio} where
-  failed-pool : (t : Bool) (o : Report) (x : State m) (qs : List Request) → cond t (tell o (at-queue x qs)) (silent x) .state .pool ≡ x .pool
-  failed-pool true o x qs = refl
-  failed-pool false o x qs = refl
-
-  failed-bearers : (t : Bool) (o : Report) (x : State m) (qs : List Request) → cond t (tell o (at-queue x qs)) (silent x) .state .bearers ≡ x .bearers
-  failed-bearers true o x qs = refl
-  failed-bearers false o x qs = refl
-
   -- what is superseded makes no difference
   still : (p : ℕ) (a : Assignment) (b : Bearer) (x : State m) → Asks-no-more p a b x → Asks-no-more p a b (supersede p (a .rab) x .state)
   still p a b x h =

@@ -12,4 +12,5 @@ pub mod Reasons
 pub mod Given
 pub mod Smallest
 pub mod Waiting
+pub mod Failing
 pub mod Granted
