@@ -1,7 +1,7 @@
 -- Grant numbers that go into a set one by one.
 use Prim.Native.Nat.{ℕ, _+_, _<_, _≤_}
 use Rattle.admission.specs.Member.{inserted}
-use Rattle.rabctl.specs.Pools.{among, named-set}
+use Rattle.rabctl.specs.Grants.{among, named-set}
 use Rattle.rules.specs.Grants.{nothing, added}
 use Rattle.std.proofs.shelf.Lists.{at-drop-more, at-drop-all}
 use Rattle.std.proofs.shelf.Tests.{cases-eq, cases-bool}

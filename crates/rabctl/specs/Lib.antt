@@ -1,2 +1,3 @@
-pub mod Pools
+pub mod Cabinets
+pub mod Grants
 pub mod Replies

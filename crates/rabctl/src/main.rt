@@ -1,11 +1,13 @@
 // Plays a script from standard input, or from the file that the first argument names.
 // The status is 1 if a line was an error or the script cannot be read.
 mod answer;
+mod cabinet;
 mod desk;
+mod grants;
 mod play;
-mod pool;
 mod problem;
 mod reply;
+mod show;
 mod words;
 
 use std::env;

@@ -15,24 +15,16 @@ pub enum Problem {
 // The calls that are not carried out yet.
 #[derive(Clone, Copy)]
 pub enum Unbuilt {
-    Open,
-    Expiry,
     Start,
     Execute,
     Withdraw,
-    Rab,
-    Show,
 }
 
 fn word(call: Unbuilt) -> &'static str {
     match call {
-        Unbuilt::Open => "open",
-        Unbuilt::Expiry => "expiry",
         Unbuilt::Start => "start",
         Unbuilt::Execute => "execute",
         Unbuilt::Withdraw => "withdraw",
-        Unbuilt::Rab => "rab",
-        Unbuilt::Show => "show",
     }
 }
 

@@ -1,29 +1,21 @@
 // What a line is answered, before the cabinet stands and after.
-ghost use Rattle.rabctl.specs.Pools.{stands};
-ghost use Rattle.rabctl.specs.Replies.{meant, frame-reply, before-cabinet, at-cabinet};
-ghost use Rattle.rules.specs.Frame.{received};
+ghost use Rattle.controller.specs.Listed.{listed};
+ghost use Rattle.rabctl.specs.Cabinets.{stands};
+ghost use Rattle.rabctl.specs.Replies.{before-cabinet, at-cabinet, left-at, told-at};
 ghost use Rattle.script.specs.Saying.{said};
+ghost use lib.ListN.{length};
 ghost use mathlib.Core.Path.{_≡_};
 use crate::answer::Answer;
-use crate::pool;
-use crate::pool::Pool;
+use crate::cabinet::Cabinet;
+use crate::grants;
 use crate::problem::Problem;
 use crate::problem::Unbuilt;
+use rules::report::Report;
 use script::Line;
-
-// What a frame says, or why it is refused.
-fn read(frame: &[u8]) -> Answer
-    ensures { λ r. ⌜ meant r ≡ frame-reply (received (now (frame .entry))) ⌝ }
-{
-    match ranap::receive(frame) {
-        Ok(message) => Answer::Read(message),
-        Err(refusal) => Answer::Refused(refusal),
-    }
-}
 
 // Until the cabinet stands, only a cabinet line is carried out.
 pub fn before_cabinet(line: &Line) -> Answer
-    ensures { λ r. ⌜ meant r ≡ before-cabinet (said (now (line .entry))) ⌝ }
+    ensures { λ r. ⌜ r ≡ before-cabinet (said (now (line .entry))) ⌝ }
 {
     match line {
         Line::Skipped => Answer::Silence,
@@ -32,25 +24,29 @@ pub fn before_cabinet(line: &Line) -> Answer
     }
 }
 
-// The pool answers the questions for a grant and for room.
-pub fn at_cabinet(pool: &Pool, line: &Line) -> Answer
-    ensures { λ r. ⌜ meant r ≡ at-cabinet (stands (now (pool .entry))) (said (now (line .entry))) ⌝ }
+// The controller carries a line out, and writes its reports to the first places of the list.
+pub fn at_cabinet(cabinet: &mut Cabinet, line: &Line, reports: &mut [Report]) -> Answer
+    ensures answer { λ r. ⌜ r ≡ at-cabinet (length (now (reports .entry))) (stands (now (cabinet .entry))) (said (now (line .entry))) ⌝ }
+    ensures state { λ _. ⌜ stands (now (cabinet .exit)) ≡ left-at (length (now (reports .entry))) (stands (now (cabinet .entry))) (said (now (line .entry))) ⌝ }
+    ensures list { λ _. ⌜ now (reports .exit) ≡ listed (told-at (length (now (reports .entry))) (stands (now (cabinet .entry))) (said (now (line .entry)))) (now (reports .entry)) ⌝ }
 {
     match line {
         Line::Skipped => Answer::Silence,
         Line::Cabinet { .. } => Answer::Error(Problem::SecondCabinet),
-        Line::Frame(bytes) => read(bytes.as_slice()),
-        Line::Grant { grant } => Answer::Held(pool.held(*grant)),
-        Line::Room { size, named } => {
-            let given = pool::named_set(named.as_slice());
-            Answer::Room(pool.room(&given, *size))
+        Line::Open { place, ue, domain } => { Answer::of_open(cabinet.open(*place, *ue, *domain)) }
+        Line::Frame(bytes) => Answer::of_frame(cabinet.frame(bytes.as_slice(), reports)),
+        Line::Expiry { place, timer } => {
+            Answer::of_expiry(cabinet.expiry(*place, *timer, reports))
         }
-        Line::Open { .. } => Answer::Error(Problem::NotBuilt(Unbuilt::Open)),
-        Line::Expiry { .. } => Answer::Error(Problem::NotBuilt(Unbuilt::Expiry)),
+        Line::Rab { place, rab } => Answer::of_rab(cabinet.rab(*place, *rab)),
+        Line::Grant { grant } => Answer::Held(cabinet.held(*grant)),
+        Line::Room { size, named } => {
+            let given = grants::named_set(named.as_slice());
+            Answer::Room(cabinet.room(&given, *size))
+        }
+        Line::Show => Answer::Shown,
         Line::Start { .. } => Answer::Error(Problem::NotBuilt(Unbuilt::Start)),
         Line::Execute { .. } => Answer::Error(Problem::NotBuilt(Unbuilt::Execute)),
         Line::Withdraw { .. } => Answer::Error(Problem::NotBuilt(Unbuilt::Withdraw)),
-        Line::Rab { .. } => Answer::Error(Problem::NotBuilt(Unbuilt::Rab)),
-        Line::Show => Answer::Error(Problem::NotBuilt(Unbuilt::Show)),
     }
 }

@@ -1,9 +1,10 @@
 // Words of the rules for a person.
-use rules::item::Flags;
-use rules::item::Item;
-use rules::item::Priority;
-use rules::item::ReadItem;
+use rules::connection::ConnectionState;
+use rules::connection::Domain;
 use rules::refusal::Reason;
+use rules::report::Cause;
+use rules::report::Report;
+use rules::report::ReportKind;
 use std::fmt;
 
 pub fn reason_words(reason: Reason) -> &'static str {
@@ -25,56 +26,97 @@ pub fn reason_words(reason: Reason) -> &'static str {
     }
 }
 
-// What a flag stands for, where it is set.
-fn write_if<W: fmt::Write>(f: &mut fmt::Formatter<W>, is_set: bool, words: &str) -> fmt::Result {
-    if is_set { f.write_str(words) } else { Ok(()) }
-}
-
-#[derive(Clone, Copy)]
-struct PriorityWords(Priority);
-
-impl fmt::Display for PriorityWords as PriorityWordsDisplay {
-    fn fmt<W: fmt::Write>(&self, f: &mut fmt::Formatter<W>) -> fmt::Result {
-        let level = self.0.level;
-        write!(f, "level {level}")?;
-        write_if(f, self.0.triggers, ", may pre-empt")?;
-        write_if(f, self.0.preemptable, ", pre-emptable")?;
-        write_if(f, self.0.queuing, ", may queue")
+pub fn state_words(state: ConnectionState) -> &'static str {
+    match state {
+        ConnectionState::Closed => "closed",
+        ConnectionState::Open => "open",
+        ConnectionState::Preparing => "preparing",
+        ConnectionState::Prepared => "prepared",
+        ConnectionState::Executed => "executed",
     }
 }
 
-// The parts that an item has besides its size and its priority.
-#[derive(Clone, Copy)]
-struct OtherParts(Flags);
-
-impl fmt::Display for OtherParts as OtherPartsDisplay {
-    fn fmt<W: fmt::Write>(&self, f: &mut fmt::Formatter<W>) -> fmt::Result {
-        write_if(f, self.0.synchronisation, ", NAS synchronisation")?;
-        write_if(f, self.0.transport, ", transport")?;
-        write_if(f, self.0.plane, ", user plane")
+pub fn domain_words(domain: Domain) -> &'static str {
+    match domain {
+        Domain::Cs => "CS",
+        Domain::Ps => "PS",
     }
 }
 
-// One item of a frame.
-#[derive(Clone, Copy)]
-pub struct ItemWords(pub ReadItem);
+fn cause_words(cause: Cause) -> &'static str {
+    match cause {
+        Cause::NoCause => "no cause",
+        Cause::RabPreempted => "RAB pre-empted",
+        Cause::TqueuingExpiry => "TQUEUING expiry",
+        Cause::RelocationTriggered => "relocation triggered",
+        Cause::TrelocprepExpiry => "TRELOCprep expiry",
+        Cause::RelocationCancelled => "relocation cancelled",
+        Cause::MaximumBitRateNotAvailable => "requested maximum bit rate not available",
+        Cause::InvalidValue => "invalid RAB parameters value",
+        Cause::InvalidCombination => "invalid RAB parameters combination",
+        Cause::RequestSuperseded => "request superseded",
+        Cause::InvalidRabId => "invalid RAB ID",
+        Cause::IuReleased => "Iu released",
+        Cause::TableFull => "table full",
+    }
+}
 
-pub impl fmt::Display for ItemWords as ItemWordsDisplay {
-    fn fmt<W: fmt::Write>(&self, f: &mut fmt::Formatter<W>) -> fmt::Result {
-        match self.0.item {
-            Item::Release(rab) => write!(f, "RAB {rab}: release"),
-            Item::Assign(a) => {
-                let rab = a.rab;
-                write!(f, "RAB {rab}: set up or modify")?;
-                if a.flags.parameters {
-                    let size = a.size;
-                    write!(f, ", size {size}")?;
-                }
-                if a.flags.priority {
-                    write!(f, ", {}", PriorityWords(a.priority))?;
-                }
-                write!(f, "{}", OtherParts(a.flags))
+fn kind_words(kind: ReportKind) -> &'static str {
+    match kind {
+        ReportKind::Done => "done",
+        ReportKind::Queued => "queued",
+        ReportKind::Failed => "failed",
+        ReportKind::Released => "released",
+        ReportKind::NotReleased => "not released",
+        ReportKind::ReleaseRequested => "release requested",
+        ReportKind::Gone => "gone",
+        ReportKind::RelocationRequired => "relocation required",
+        ReportKind::RelocationCancel => "relocation cancel",
+    }
+}
+
+// Whom a report concerns: a RAB, or a whole connection.
+fn write_subject<W: fmt::Write>(f: &mut fmt::Formatter<W>, report: &Report) -> fmt::Result {
+    let place = report.place;
+    let rab = report.rab;
+    match report.kind {
+        ReportKind::RelocationRequired => write!(f, "place {place}"),
+        ReportKind::RelocationCancel => write!(f, "place {place}"),
+        _ => write!(f, "RAB {rab} at place {place}"),
+    }
+}
+
+// What a report adds to its kind: the size in use, or a cause.
+fn write_detail<W: fmt::Write>(f: &mut fmt::Formatter<W>, report: &Report) -> fmt::Result {
+    let size = report.size;
+    match report.kind {
+        ReportKind::Done => write!(f, ", size {size}"),
+        _ => match report.cause {
+            Cause::NoCause => Ok(()),
+            cause => {
+                let words = cause_words(cause);
+                write!(f, ", {words}")
             }
-        }
+        },
+    }
+}
+
+// One report: its five numbers, and words for a person.
+#[derive(Clone, Copy)]
+pub struct ReportWords(pub Report);
+
+pub impl fmt::Display for ReportWords as ReportWordsDisplay {
+    fn fmt<W: fmt::Write>(&self, f: &mut fmt::Formatter<W>) -> fmt::Result {
+        let report = self.0;
+        let kind = report.kind.number();
+        let place = report.place;
+        let rab = report.rab;
+        let cause = report.cause.number();
+        let size = report.size;
+        write!(f, "({kind},{place},{rab},{cause},{size}) ")?;
+        write_subject(f, &report)?;
+        let words = kind_words(report.kind);
+        write!(f, ": {words}")?;
+        write_detail(f, &report)
     }
 }

@@ -1,6 +1,6 @@
 use Rattle.admission.specs.Member.{member}
 use Rattle.rabctl.proofs.Naming.{one-more, at-start, at-end}
-use Rattle.rabctl.proofs.pool.named_set.Needs as need
+use Rattle.rabctl.proofs.grants.named_set.Needs as need
 use mathlib.Core.Path.{sym, _∙_}
 
 pub loop-grant-holds : need.loop-grant-holds

@@ -1,7 +1,7 @@
 use Rattle.admission.specs.Member.{member}
 use Rattle.rabctl.proofs.Naming.{with-named}
-use Rattle.rabctl.proofs.pool.named_set.Given as given
-use Rattle.rabctl.specs.Pools.{named-set}
+use Rattle.rabctl.proofs.grants.named_set.Given as given
+use Rattle.rabctl.specs.Grants.{named-set}
 use lib.ListN.{drop}
 use mathlib.Core.Path.{_≡_}
 
