@@ -48,6 +48,14 @@ impl CodeTree {
         }
     }
 
+    // The grant that stands on a leaf, if one does.
+    pub fn owner(&self, leaf: u8) -> Option<u8>
+        ensures { λ r. ⌜ r ≡ tree-of (now (self .entry)) .owner leaf ⌝ }
+    {
+        let owner = self.owners[leaf as usize];
+        if owner < NOBODY { Some(owner) } else { None }
+    }
+
     fn leaf_free(&self, leaf: usize, given: &GrantSet) -> bool
         requires { ⌜ leaf < 256 ⌝ }
         ensures { λ r. ⌜ r ≡ free-leaves (tree-of (now (self .entry))) (member (now (given .entry))) leaf ⌝ }

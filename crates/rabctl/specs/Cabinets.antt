@@ -20,6 +20,7 @@ use Rattle.script.specs.declared.said.Pool.{Pool as Kind}
 use Rattle.script.specs.declared.said.Pool.the-variants as kind
 use Rattle.std.specs.Options.{mapped}
 use Rattle.std.specs.declared.option.Option.{Option}
+use Rattle.std.specs.declared.option.Option.the-variants.{None}
 use Rattle.std.specs.declared.result.Result.{Result}
 use mathlib.Core.Bool.{Bool}
 use mathlib.Core.List.{List}
@@ -106,3 +107,8 @@ set-up (grows x) = x .bearers
 abbrev pub waiting : Standing → List Request
 waiting (shares x) = x .queue
 waiting (grows x) = x .queue
+
+-- the grant on a leaf of the code tree; a rate pool has no leaves
+abbrev pub owns : ℕ → Standing → Option ℕ
+owns i (shares x) = None
+owns i (grows x) = x .pool .owner i

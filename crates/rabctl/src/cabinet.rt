@@ -1,7 +1,7 @@
 // The controller of the cabinet, over a pool of one of two kinds.
 ghost use Rattle.admission.specs.Member.{member};
 ghost use Rattle.controller.specs.Listed.{listed};
-ghost use Rattle.rabctl.specs.Cabinets.{stands, new-cabinet, open-said, open-left, frame-said, frame-left, frame-told, expiry-said, expiry-left, expiry-told, rab-said, holds, admits, placed, set-up, waiting};
+ghost use Rattle.rabctl.specs.Cabinets.{stands, new-cabinet, open-said, open-left, frame-said, frame-left, frame-told, expiry-said, expiry-left, expiry-told, rab-said, holds, admits, placed, set-up, waiting, owns};
 ghost use Rattle.rules.specs.Frame.{received};
 ghost use Rattle.std.specs.Vec.{made};
 ghost use lib.ListN.{length};
@@ -132,6 +132,16 @@ impl Cabinet {
         match self {
             Cabinet::Rate(controller) => controller.queue(),
             Cabinet::Tree(controller) => controller.queue(),
+        }
+    }
+
+    // The grant that stands on a leaf of the code tree. A rate pool has no leaves.
+    pub fn owner(&self, leaf: u8) -> Option<u8>
+        ensures { λ r. ⌜ r ≡ owns leaf (stands (now (self .entry))) ⌝ }
+    {
+        match self {
+            Cabinet::Rate(_) => None,
+            Cabinet::Tree(controller) => controller.pool().owner(leaf),
         }
     }
 }

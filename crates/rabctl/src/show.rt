@@ -99,13 +99,47 @@ fn largest(cabinet: &Cabinet) -> u8 {
     largest
 }
 
+// A line of 64 leaves: a point where a leaf is free, else the last digit of the grant that stands on it.
+#[derive(Clone, Copy)]
+struct Leaves<'a> {
+    cabinet: &'a Cabinet,
+    line: u8,
+}
+
+impl<'a> fmt::Display for Leaves<'a> as LeavesDisplay {
+    fn fmt<W: fmt::Write>(&self, f: &mut fmt::Formatter<W>) -> fmt::Result {
+        for i in 0..64u8 {
+            match self.cabinet.owner((self.line & 3) * 64 + i) {
+                None => f.write_str(".")?,
+                Some(grant) => {
+                    let digit = grant % 10;
+                    write!(f, "{digit}")?
+                }
+            }
+        }
+        Ok(())
+    }
+}
+
+// The 256 leaves of the code tree, in four lines.
+fn show_leaves(rt: &LibcRuntime, number: u64, cabinet: &Cabinet) -> io::Result<()> {
+    if let Cabinet::Rate(_) = cabinet {
+        return Ok(());
+    }
+    for line in 0..4u8 {
+        let leaves = Leaves { cabinet, line };
+        println!(rt, "{number} |   {leaves}")?;
+    }
+    Ok(())
+}
+
 fn show_pool(rt: &LibcRuntime, number: u64, cabinet: &Cabinet) -> io::Result<()> {
     let largest = largest(cabinet);
     println!(rt, "{number} | pool, with room for sizes up to {largest}:")?;
     for grant in 0..64u8 {
         show_grant(rt, number, grant, cabinet.held(grant))?;
     }
-    Ok(())
+    show_leaves(rt, number, cabinet)
 }
 
 pub fn show(rt: &LibcRuntime, number: u64, cabinet: &Cabinet) -> io::Result<()> {

@@ -64,6 +64,13 @@ impl<P: RadioPool> Controller<P> {
         self.rabs.queue()
     }
 
+    // The radio pool as it stands.
+    pub fn pool(&self) -> &P
+        ensures { λ r. ⌜ state (now r) ≡ view radio state (now (self .entry)) .pool ⌝ }
+    {
+        &self.pool
+    }
+
     // The size of a grant, or 0 where it is not held.
     pub fn held(&self, grant: u8) -> u8
         ensures { λ r. ⌜ r ≡ radio .holds (view radio state (now (self .entry)) .pool) grant ⌝ }
