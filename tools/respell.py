@@ -22,9 +22,17 @@ def split_comment(line, marker):
     return (line, '') if found is None else (line[:found.start()], line[found.start():])
 
 
+KIT = re.compile(r'\s*(?:ghost )?use (?:Rattle\.(?:std|core)|borrow|lib|mathlib|Prim|denote)\b[\w.]*\.\{(.*)\}')
+
+
 def own_names():
-    """names with a dash that a file of specs/ or proofs/ defines and that are no goals"""
-    names, goals = set(), set()
+    """names with a dash that a file of specs/ or proofs/ defines, that are no goals and that no file has from the kit"""
+    names, goals, kit = set(), set(), set()
+    for path in ANTT + RT:
+        for line in open(path, encoding='utf-8'):
+            found = KIT.match(line)
+            if found is not None:
+                kit.update(TOKEN.findall(found.group(1)))
     for path in ANTT:
         for line in open(path, encoding='utf-8'):
             code, _ = split_comment(line, r'(?:^|(?<=\s))--(?=\s|$)')
@@ -32,7 +40,7 @@ def own_names():
             if found is None or '-' not in found.group(2):
                 continue
             (goals if re.search(r':\s*(?:goal|rules|need|needs)\.', code) else names).add(found.group(2))
-    return names - goals
+    return names - goals - kit
 
 
 def respelled(name):

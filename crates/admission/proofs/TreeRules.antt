@@ -1,7 +1,7 @@
 -- That the definitions of the code tree say what its rules say.
 use Rattle.std.proofs.Common.{◌≡◌, ℕ, ◌+◌, ◌*◌, ◌/◌, ◌%◌, ◌<◌, ◌≤◌, Bool, true, eqb, ◌⊎◌, is_some, Some, None, Decides, Option, refl, ap, ◌∙◌, subst, ⊎_elim, mul-le-mul_right, add-mul, div-add-mod', arith}
 use Rattle.std.proofs.lemmas.Nat.{le-div, mod-mul-add}
-use Rattle.std.proofs.lemmas.Bool.{cases_lt, both_ways, cond_true, cond_false, eq-eqb, ne_eqb}
+use Rattle.std.proofs.lemmas.Bool.{cases_lt, both_ways, cond-true, cond-false, eq-eqb, ne_eqb}
 use Rattle.std.proofs.lemmas.Bool.Decides.{nat_tests}
 use Rattle.rules.specs.Grants.{nothing}
 use Rattle.rules.specs.Radio.{takes}
@@ -85,15 +85,15 @@ placed x g s does =
           (λ lower. absurd (both_ways (block_free free w k) (b.first.none_before k (omega arith) lower) (all_free free s other o)))
           (λ le. omega (arith, mul-le-mul_right {m = b.at} {n = k} w le))
           (cases_lt k b.at);
-      stands = λ i l h. now_at x g s b.at i b.is ∙ cond_true (in_block w b.at i) (Some g) (x.owner i) (from_bounds w b.at i l h);
-      others = λ i out. now_at x g s b.at i b.is ∙ cond_false (in_block w b.at i) (Some g) (x.owner i) (⊎_elim (λ l. grind (arith, nat_tests)) (λ l. grind (arith, nat_tests)) out);
+      stands = λ i l h. now_at x g s b.at i b.is ∙ cond-true (in_block w b.at i) (Some g) (x.owner i) (from_bounds w b.at i l h);
+      others = λ i out. now_at x g s b.at i b.is ∙ cond-false (in_block w b.at i) (Some g) (x.owner i) (⊎_elim (λ l. grind (arith, nat_tests)) (λ l. grind (arith, nat_tests)) out);
     }
 
 pub cleared : (x : Tree) (g : ℕ) → Cleared x (codes.given x g) g
 cleared x g = record {
-  free = λ i e. ap (left_by g) e ∙ cond_true (eqb g g) None (Some g) (eq-eqb g g refl);
+  free = λ i e. ap (left_by g) e ∙ cond-true (eqb g g) None (Some g) (eq-eqb g g refl);
   others = λ i ne. kept (x.owner i) ne;
 } where
   kept : (o : Option ℕ) → (o ≡ Some g → ⊥) → left_by g o ≡ o
   kept None ne = refl
-  kept (Some k) ne = cond_false (eqb k g) None (Some k) (ne_eqb k g (λ e. ne (ap (λ n. Some n) e)))
+  kept (Some k) ne = cond-false (eqb k g) None (Some k) (ne_eqb k g (λ e. ne (ap (λ n. Some n) e)))

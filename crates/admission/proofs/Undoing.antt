@@ -1,6 +1,6 @@
 -- That a give undoes a take, from the laws of a pool.
 use Rattle.std.proofs.Common.{◌≡◌, ℕ, ◌<◌, true, ◌||◌, sym, ap, ◌∙◌, subst, ⊎_elim, arith}
-use Rattle.std.proofs.lemmas.Bool.{cases_eq, cond_true, lt-ltb, ne_eqb}
+use Rattle.std.proofs.lemmas.Bool.{cases_eq, cond-true, lt-ltb, ne_eqb}
 use Rattle.std.proofs.lemmas.Bool.Decides.{nat_tests}
 use Rattle.rules.specs.Grants.{nothing, added}
 use Rattle.rules.specs.Radio.{Radio, Lawful, Taken, Given, takes, gives, put, after_take, after_give}
@@ -22,7 +22,7 @@ module _
       let gives-it : gives m y g ≡ true = lt-ltb 0 (m.holds y g) (omega arith) in
       let gave : Given m y g = given y g took.sound gives-it in
       let end : m.given y g ≡ after_give m (after_take m x g s) g =
-      sym (cond_true (gives m y g) (m.given y g) y gives-it) ∙ ap (λ z. after_give m z g) (sym (cond_true (takes m x g s) y x does))
+      sym (cond-true (gives m y g) (m.given y g) y gives-it) ∙ ap (λ z. after_give m z g) (sym (cond-true (takes m x g s) y x does))
       in
       subst (Alike m x) end (record {
         sound = gave.sound;

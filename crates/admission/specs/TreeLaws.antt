@@ -2,7 +2,7 @@
 use Rattle.std.specs.Prelude.{◌≡◌, ℕ, ◌+◌, ◌*◌, ◌/◌, ◌<◌, ◌≤◌, Bool, true, false, cond, ◌&&◌, ◌||◌, is_some, Some, None, Option, ◌==◌, ◌≢◌, nat_le, nat_lt, refl}
 use Rattle.std.proofs.Common.{sym, ap, ◌∙◌, subst, ⊎_elim, arith}
 use Rattle.std.proofs.Math.Path.{fun_ext}
-use Rattle.std.proofs.lemmas.Bool.{cases_eq, cases_Bool, both_ways, and_from, lt-ltb, cond_true, cond_false, ne_eqb, eq-eqb}
+use Rattle.std.proofs.lemmas.Bool.{cases_eq, cases_Bool, both_ways, and_from, lt-ltb, cond-true, cond-false, ne_eqb, eq-eqb}
 use Rattle.std.proofs.lemmas.Bool.Decides.{Decides-like, nat_tests}
 use Rattle.rules.specs.Grants.{nothing, everything, added}
 use Rattle.rules.specs.Radio.{Lawful, Taken, Given, takes, gives, put}
@@ -46,7 +46,7 @@ sized free s e =
 pub block_at : (free : ℕ → Bool) (s : ℕ) → 0 < s → s ≤ 64 → block_for free s ≡ lowest free (rounded s)
 block_at free s some small =
     let both : (nat_lt 0 s && nat_le s 64) ≡ true = grind (arith, nat_tests) in
-    cond_true (nat_lt 0 s && nat_le s 64) (lowest free (rounded s)) None both
+    cond-true (nat_lt 0 s && nat_le s 64) (lowest free (rounded s)) None both
 
 -- a block all of whose leaves are free makes room
 pub makes_room : (free : ℕ → Bool) (s j : ℕ) → 0 < s → s ≤ 64 → j < 256 / rounded s → ((i : ℕ) → in_block (rounded s) j i ≡ true → free i ≡ true) → by_leaves s free ≡ true
@@ -133,12 +133,12 @@ taken x g s ok does =
     let b = block_found (free_leaves x nothing) s obeyed.room in
     let y : Tree = codes.taken x g s in
     let inside : ℕ → Bool = in_block (rounded s) b.at in
-    let own : (i : ℕ) → inside i ≡ true → y.owner i ≡ Some g = λ i in'. now_at x g s b.at i b.is ∙ cond_true (inside i) (Some g) (x.owner i) in' in
+    let own : (i : ℕ) → inside i ≡ true → y.owner i ≡ Some g = λ i in'. now_at x g s b.at i b.is ∙ cond-true (inside i) (Some g) (x.owner i) in' in
     let vacant : (i : ℕ) → inside i ≡ true → x.owner i ≡ None = λ i in'.
     let bounds = in_bounds (rounded s) b.at i in' in
     no_owner (x.owner i) (all_each (free_leaves x nothing) (b.at * rounded s) (rounded s) b.first.passes i bounds.0 bounds.1)
     in
-    let kept : (i : ℕ) → inside i ≡ false → y.owner i ≡ x.owner i = λ i out. now_at x g s b.at i b.is ∙ cond_false (inside i) (Some g) (x.owner i) out in
+    let kept : (i : ℕ) → inside i ≡ false → y.owner i ≡ x.owner i = λ i out. now_at x g s b.at i b.is ∙ cond-false (inside i) (Some g) (x.owner i) out in
     record {
       sound = record {
         numbers = put_numbers x.sizes g s obeyed.number ok.numbers;
@@ -208,9 +208,9 @@ free_left n g (Some k) = at (k == g) where
 pub still_there : (g k : ℕ) (o : Option ℕ) → left_by g o ≡ Some k → (o ≡ Some k) × (k ≢ g)
 still_there g k None e = absurd (none_is_some k e)
 still_there g k (Some h) e = ⊎_elim
-    (λ same. absurd (none_is_some k (sym (cond_true (h == g) None (Some h) (eq-eqb h g same)) ∙ e)))
+    (λ same. absurd (none_is_some k (sym (cond-true (h == g) None (Some h) (eq-eqb h g same)) ∙ e)))
     (λ ne.
-    let is : ◌≡◌ {A = Option ℕ} (Some h) (Some k) = sym (cond_false (h == g) None (Some h) (ne_eqb h g ne)) ∙ e in
+    let is : ◌≡◌ {A = Option ℕ} (Some h) (Some k) = sym (cond-false (h == g) None (Some h) (ne_eqb h g ne)) ∙ e in
     let kh : k ≡ h = some_is k h (sym is) in
     (is, λ kg. ne (sym kh ∙ kg)))
     (cases_eq h g)
@@ -227,7 +227,7 @@ given x g ok does = record {
         let ne : k ≡ g → ⊥ = λ same. omega (arith, put_at x.sizes g 0 k same) in
         let size-kept : put x.sizes g 0 k ≡ x.sizes k = put_off x.sizes g 0 k ne in
         let to : (i : ℕ) → x.owner i ≡ Some k → left_by g (x.owner i) ≡ Some k = λ i e.
-        ap (left_by g) e ∙ cond_false (k == g) None (Some k) (ne_eqb k g ne)
+        ap (left_by g) e ∙ cond-false (k == g) None (Some k) (ne_eqb k g ne)
         in
         let back : (i : ℕ) → left_by g (x.owner i) ≡ Some k → x.owner i ≡ Some k = λ i e. (still_there g k (x.owner i) e).0 in
         subst (Stands (moved_out x.owner g) k) (sym size-kept)

@@ -1,7 +1,7 @@
 -- A received frame has at most 32 items.
 use Rattle.std.proofs.Common.{◌≡◌, ℕ, ◌+◌, ◌*◌, ◌≤◌, Bool, true, false, ◌&&◌, leb, List, length, Some, None, Ok, Err, Option, Result, refl, ap, ◌∙◌, subst, arith}
 use lib.ListN.{length-map}
-use Rattle.std.proofs.lemmas.Bool.{and_parts, leb_true}
+use Rattle.std.proofs.lemmas.Bool.{and_parts, leb-true}
 use Rattle.std.proofs.lemmas.List.FromFn.{length-map-range_with_len}
 use Rattle.rules.specs.Message.{Message, items_of, distinct, passed, checked}
 use Rattle.rules.specs.Numbers.{fewest_items, most_items}
@@ -29,7 +29,7 @@ kind_few RelocationPreparationFailure bs l = omega arith
 good_count : (k : FrameKind) (bs : List ℕ) → count_good k bs ≡ true → count_at bs ≤ most_items k
 good_count k bs e =
     let a = and_parts (leb (fewest_items k) (count_at bs) && leb (count_at bs) (most_items k)) (leb (4 + 4 * count_at bs) (length bs)) e in
-    leb_true (count_at bs) (most_items k) (and_parts (leb (fewest_items k) (count_at bs)) (leb (count_at bs) (most_items k)) a.0).1
+    leb-true (count_at bs) (most_items k) (and_parts (leb (fewest_items k) (count_at bs)) (leb (count_at bs) (most_items k)) a.0).1
 
 as_few : (k : FrameKind) (bs : List ℕ) (g : Message) (o : Option ℕ) → fault_in k bs ≡ o → read_as k o bs ≡ Ok g → length (items_of g) ≤ 32
 as_few k bs g None f e =

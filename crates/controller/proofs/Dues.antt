@@ -8,7 +8,7 @@ use Rattle.rules.specs.Radio.{Radio}
 use Rattle.rules.specs.State.{State}
 use Rattle.rules.specs.declared.bearer.Request.{Request}
 use Rattle.std.proofs.lemmas.List.{at_drop_more, at_drop_all}
-use Rattle.std.proofs.lemmas.Bool.{and_parts, leb_true, le-leb, lt-leb, eqb-true, ne_eqb, eq-eqb, cases_eq}
+use Rattle.std.proofs.lemmas.Bool.{and_parts, leb-true, le-leb, lt-leb, eqb-true, ne_eqb, eq-eqb, cases_eq}
 use Rattle.std.proofs.lemmas.Bool.Decides.{nat_tests}
 
 -- one level of those that are left
@@ -112,7 +112,7 @@ module _ {m : Radio} (x : State m) where
       by_level x (q ∷ qs) 1 15 ≡ first_by_level (cond t (q ∷ filter (admitted x) qs) (filter (admitted x) qs))
   one_more q qs true e good ih =
       let r = and_parts (leb 1 q.priority.level) (leb q.priority.level 15) good in
-      before_levels q qs e 1 15 (leb_true 1 q.priority.level r.0) (omega (arith, leb_true q.priority.level 15 r.1)) ∙ ap (ahead q) ih
+      before_levels q qs e 1 15 (leb-true 1 q.priority.level r.0) (omega (arith, leb-true q.priority.level 15 r.1)) ∙ ap (ahead q) ih
   one_more q qs false e good ih = same_levels q qs e 1 15 ∙ ih
 
   found : (qs : List Request) → requests_good qs ≡ true → by_level x qs 1 15 ≡ first_by_level (filter (admitted x) qs)

@@ -1,6 +1,6 @@
 -- The first by level, then arrival, of those that pass a test.
 use Rattle.std.proofs.Common.{◌≡◌, ℕ, ◌<◌, ◌≤◌, Bool, true, false, cond, leb, ◌⊎◌, List, [], ◌∷◌, ◌++◌, Some, None, filter, Option, sym, refl, ap, ◌∙◌, subst, ⊎_elim, arith}
-use Rattle.std.proofs.lemmas.Bool.{leb_true, leb-false}
+use Rattle.std.proofs.lemmas.Bool.{leb-true, leb-false}
 use Rattle.rules.specs.Queue.{ahead, first_by_level}
 use Rattle.rules.specs.declared.bearer.Request.{Request}
 use Rattle.laws.specs.Lists.{Among}
@@ -68,7 +68,7 @@ some_step test v q qs (Some w) t e none some = at (leb v.priority.level w.priori
     at : (k : Bool) → leb v.priority.level w.priority.level ≡ k → cond k (Some v) (Some w) ≡ Some q → Leads test (v ∷ qs) q
     at true f g =
         let s : v ≡ q = cc in
-        let l = leb_true v.priority.level w.priority.level f in
+        let l = leb-true v.priority.level w.priority.level f in
         subst (Leads test (v ∷ qs)) s (one_first test v qs t (λ u a p. let h = leads_all test qs w u (some w refl) a p in omega arith))
     at false f g = let s : w ≡ q = cc in let l = leb-false v.priority.level w.priority.level f in subst (Leads test (v ∷ qs)) s (one_before test v w qs (some w refl) (λ _. omega arith))
 

@@ -13,7 +13,7 @@ use Rattle.rules.specs.declared.item.FrameKind.{FrameKind}
 use Rattle.rules.specs.declared.item.FrameKind.TheVariants.{RabAssignmentRequest, IuReleaseCommand, RelocationCommand, RelocationPreparationFailure}
 use Rattle.rules.specs.declared.item.Item.TheVariants.{Release}
 use Rattle.std.proofs.lemmas.List.FromFn.{get_or-map-range_with_len, length-map-range_with_len}
-use Rattle.std.proofs.lemmas.List.{get_or_map, length-map}
+use Rattle.std.proofs.lemmas.List.{get_or-map, length-map}
 use Rattle.std.proofs.lemmas.Bool.{both_ways, eq-eqb, ne_eqb}
 
 -- items one after the other: each begins behind the pairs, and no two overlap
@@ -90,7 +90,7 @@ many_items bs = length-map (pairs bs) (read_item bs) ∙ length-map-range_with_l
 item_number : (bs : List ℕ) (i : ℕ) → i < count_at bs → get_or (read_items bs) i blank ≡ read_item bs (pair_at bs i)
 item_number bs i l =
     let m : i < length (pairs bs) = subst (λ k. i < k) (sym (length-map-range_with_len (pair_at bs) 0 (count_at bs))) l in
-    get_or_map (read_item bs) (pairs bs) i (pair_at bs 0) blank m ∙
+    get_or-map (read_item bs) (pairs bs) i (pair_at bs 0) blank m ∙
     ap (read_item bs) (get_or-map-range_with_len (pair_at bs) 0 (count_at bs) i i (pair_at bs 0) l (omega arith))
 
 -- a frame without items

@@ -3,15 +3,15 @@ use Rattle.std.proofs.Common.{◌≡◌, ℕ, zero, suc, ◌+◌, ◌*◌, ◌<�
 use Rattle.ranap.proofs.PairsPass.{fault_on, fault_here, no_fault}
 use Rattle.ranap.specs.Formed.{Placed, free_from, offset_at, length_at}
 use Rattle.rules.specs.Frame.{count_at, pair_at, pairs_of, pair_good, pair_fault}
-use Rattle.std.proofs.lemmas.Bool.{leb_true, le-leb, eqb-true, eq-eqb, and_parts, and_from, or_cases, or_left, or_right, both_ways}
+use Rattle.std.proofs.lemmas.Bool.{leb-true, le-leb, eqb-true, eq-eqb, and_parts, and_from, or_cases, or_left, or_right, both_ways}
 
 pub placed_from : (bs : List ℕ) (i : ℕ) → pair_good (length bs) (free_from bs i) (pair_at bs i) ≡ true → Placed bs i
 placed_from bs i e =
     let a = and_parts (leb (free_from bs i) (offset_at bs i) && leb (offset_at bs i + length_at bs i) (length bs)) (eqb (length_at bs i) 3 || eqb (length_at bs i) 6) e in
     let b = and_parts (leb (free_from bs i) (offset_at bs i)) (leb (offset_at bs i + length_at bs i) (length bs)) a.0 in
     record {
-      after = leb_true (free_from bs i) (offset_at bs i) b.0;
-      inside = leb_true (offset_at bs i + length_at bs i) (length bs) b.1;
+      after = leb-true (free_from bs i) (offset_at bs i) b.0;
+      inside = leb-true (offset_at bs i + length_at bs i) (length bs) b.1;
       sized = ⊎_elim (λ h. inl (eqb-true (length_at bs i) 3 h)) (λ h. inr (eqb-true (length_at bs i) 6 h)) (or_cases (eqb (length_at bs i) 3) (eqb (length_at bs i) 6) a.1);
     }
 

@@ -5,7 +5,7 @@ use Rattle.rules.specs.Frame.{byte, kind_at, count_at, count_good}
 use Rattle.rules.specs.Numbers.{frame_kind_number, frame_kind_of, fewest_items, most_items}
 use Rattle.rules.specs.declared.item.FrameKind.{FrameKind}
 use Rattle.rules.specs.declared.item.FrameKind.TheVariants.{RabAssignmentRequest, IuReleaseCommand, RelocationCommand, RelocationPreparationFailure}
-use Rattle.std.proofs.lemmas.Bool.{leb_true, le-leb, eqb-true, and_parts, and_from}
+use Rattle.std.proofs.lemmas.Bool.{leb-true, le-leb, eqb-true, and_parts, and_from}
 
 number_back : (k : FrameKind) → frame_kind_of (frame_kind_number k) ≡ Some k
 number_back RabAssignmentRequest = refl
@@ -37,7 +37,7 @@ pub starts_from : (k : FrameKind) (bs : List ℕ) → kind_at bs ≡ Some k → 
 starts_from k bs e =
     let w = kind_when (leb 4 (length bs) && leb (length bs) 1024) (frame_kind_of (byte bs 0)) k e in
     let a = and_parts (leb 4 (length bs)) (leb (length bs) 1024) w.0 in
-    record { long = leb_true 4 (length bs) a.0; short = leb_true (length bs) 1024 a.1; kind = kind_numbered (byte bs 0) k w.1 }
+    record { long = leb-true 4 (length bs) a.0; short = leb-true (length bs) 1024 a.1; kind = kind_numbered (byte bs 0) k w.1 }
 
 pub starts_kind : (k : FrameKind) (bs : List ℕ) → Starts k bs → kind_at bs ≡ Some k
 starts_kind k bs s =
@@ -53,9 +53,9 @@ counts_from k bs e =
     let a = and_parts (leb (fewest_items k) (count_at bs) && leb (count_at bs) (most_items k)) (leb (4 + 4 * count_at bs) (length bs)) e in
     let b = and_parts (leb (fewest_items k) (count_at bs)) (leb (count_at bs) (most_items k)) a.0 in
     record {
-      least = leb_true (fewest_items k) (count_at bs) b.0;
-      most = leb_true (count_at bs) (most_items k) b.1;
-      fits = leb_true (4 + 4 * count_at bs) (length bs) a.1;
+      least = leb-true (fewest_items k) (count_at bs) b.0;
+      most = leb-true (count_at bs) (most_items k) b.1;
+      fits = leb-true (4 + 4 * count_at bs) (length bs) a.1;
     }
 
 pub counts_good : (k : FrameKind) (bs : List ℕ) → Counts k bs → count_good k bs ≡ true

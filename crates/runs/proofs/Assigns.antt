@@ -1,7 +1,7 @@
 -- A set-up or modify item on an open connection.
 use Rattle.std.proofs.Common.{◌≡◌, ℕ, ◌<◌, Bool, true, false, cond, not, ◌&&◌, ◌||◌, eqb, ltb, leb, List, get_or, Some, None, Option, sym, refl, ap, ◌∙◌, subst, arith}
 use Rattle.std.proofs.lemmas.Bool.Decides.{nat_tests}
-use Rattle.std.proofs.lemmas.Bool.{or_parts, and_parts, not_false, eqb-false, leb-false}
+use Rattle.std.proofs.lemmas.Bool.{or_parts, and_parts, not-false, eqb-false, leb-false}
 use Rattle.rules.specs.Radio.{Radio}
 use Rattle.rules.specs.State.{State}
 use Rattle.rules.specs.Tables.{is_some, set_up_as, waits_as}
@@ -52,7 +52,7 @@ size_there a flag e =
 parts_there : (a : Assignment) → ill_combined a None ≡ false → a.flags.parameters ≡ true
 parts_there a e =
     let h = or_parts (parts_missing a.flags None) (a.flags.priority && not a.flags.parameters) e in
-    let i = not_false (a.flags.parameters && a.flags.transport && a.flags.plane) h.0 in
+    let i = not-false (a.flags.parameters && a.flags.transport && a.flags.plane) h.0 in
     (and_parts a.flags.parameters a.flags.transport (and_parts (a.flags.parameters && a.flags.transport) a.flags.plane i).0).0
 
 -- below 64 where a set-up is not refused

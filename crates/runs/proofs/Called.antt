@@ -2,7 +2,7 @@
 use Rattle.std.proofs.Common.{◌≡◌, ℕ, ◌<◌, Bool, true, false, cond, not, ◌&&◌, eqb, ltb, List, [], ◌∷◌, ◌++◌, map, length, Some, None, filter, Option, sym, refl, ap, ◌∙◌, subst, arith, length-set}
 use lib.ListN.{length-map}
 use Rattle.std.proofs.lemmas.Bool.Decides.{nat_tests}
-use Rattle.std.proofs.lemmas.Bool.{not-true, not_false, or_parts, ltb-false}
+use Rattle.std.proofs.lemmas.Bool.{not-true, not-false, or_parts, ltb-false}
 use Rattle.rules.specs.Radio.{Radio}
 use Rattle.rules.specs.State.{State, Outcome, silent}
 use Rattle.rules.specs.Tables.{is_some, waits_at}
@@ -70,7 +70,7 @@ module _ {m : Radio} (k : ℕ) (b : Book) (x : State m) (r : Right k b x) where
       let n₃ = no_reason (any_connection (λ c. of_ue u c && eqb (domain_number c.domain) d) x.connections) (refusal reason.DomainTaken p) _ n₂.1 in
       let n₄ = no_reason (not (is_some (domain_of d))) (refusal reason.BadCode p) _ n₃.1 in
       let n₅ = no_reason (ue_relocating u x) (refusal reason.UeRelocating p) None n₄.1 in
-      opens_right p u (domain_of d) (not_false (is_some (domain_of d)) n₄.0) (low_place p x.connections r.wide n.0) (not_false (closed (state_at p x)) n₂.0) n₅.0
+      opens_right p u (domain_of d) (not-false (is_some (domain_of d)) n₄.0) (low_place p x.connections r.wide n.0) (not-false (closed (state_at p x)) n₂.0) n₅.0
 
   pub open_right : (p u d : ℕ) → Right k (note (entry (to_open p u d) x) b) (step (to_open p u d) x).state
   open_right p u d = open_when p u d (open_refusal p u d x) refl
@@ -114,14 +114,14 @@ module _ {m : Radio} (k : ℕ) (b : Book) (x : State m) (r : Right k b x) where
       let n₂ = no_reason (bad_place p x) (refusal reason.BadPlace p) _ n₁.1 in
       let n₃ = no_reason (not (is_some (timer_of t))) (refusal reason.BadCode p) _ n₂.1 in
       let n₄ = no_reason (not (timer_runs (timer_of t) p x)) (refusal reason.NotRunning p) None n₃.1 in
-      expires_when p t (timer_of t) refl (not_false (is_some (timer_of t)) n₃.0) (not_false (timer_runs (timer_of t) p x) n₄.0)
+      expires_when p t (timer_of t) refl (not-false (is_some (timer_of t)) n₃.0) (not-false (timer_runs (timer_of t) p x) n₄.0)
 
   pub expiry_right : (n p t : ℕ) → Right k (note (entry (to_expiry n p t) x) b) (step (to_expiry n p t) x).state
   expiry_right n p t = expiry_when n p t (length (step (to_expiry n p t) x).reports) (expiry_refusal n p t x) refl
 
   -- a ticket that is not foreign is out
   out_there : (t : TicketId) → foreign t x ≡ false → is_some (ticket_at t.number x) ≡ true
-  out_there t e = not_false (is_some (ticket_at t.number x)) (or_parts (not (eqb t.controller x.number)) (not (is_some (ticket_at t.number x))) e).1
+  out_there t e = not-false (is_some (ticket_at t.number x)) (or_parts (not (eqb t.controller x.number)) (not (is_some (ticket_at t.number x))) e).1
 
   executed_rest : (o : Option TicketRecord) → ((execute_of o x).number ≡ x.number) × (length (execute_of o x).connections ≡ length x.connections)
   executed_rest None = (refl, refl)
@@ -138,7 +138,7 @@ module _ {m : Radio} (k : ℕ) (b : Book) (x : State m) (r : Right k b x) where
       record {
         number = s.0 ∙ r.number;
         wide = s.1 ∙ r.wide;
-        rabs = rabs_execute t.number b.rabs x r.rabs (not_false (ready (ticket_at t.number x) x) n₂.0);
+        rabs = rabs_execute t.number b.rabs x r.rabs (not-false (ready (ticket_at t.number x) x) n₂.0);
         ticks = ticks_execute b.tickets x r.ticks t (out_there t n.0);
       }
 

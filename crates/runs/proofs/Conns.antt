@@ -1,6 +1,6 @@
 -- Connections by place: after a change, and what a test of all of them says of each.
 use Rattle.std.proofs.Common.{◌≡◌, ℕ, zero, suc, ◌+◌, ◌<◌, Bool, true, false, cond, ◌||◌, eqb, ◌⊎◌, List, [], ◌∷◌, length, get_or, set, sym, refl, ap, ◌∙◌, inl, inr, ⊎_elim, arith, get_or-set_other, get_or-set_same}
-use lib.ListN.{get_or_map}
+use lib.ListN.{get_or-map}
 use Rattle.std.proofs.lemmas.Bool.Decides.{nat_tests}
 use Rattle.std.proofs.lemmas.Bool.{cases_eq, or_parts, or_cases, or_from, or_left}
 use Rattle.rules.specs.Message.{among}
@@ -17,7 +17,7 @@ abbrev pub change : ℕ → (ConnectionState → ConnectionState) → Connection
 change u f c = cond (of_ue u c) (moved_to (f c.state) c) c
 
 pub seat_changed : (u : ℕ) (f : ConnectionState → ConnectionState) (cs : List Connection) (k : ℕ) → seat (changed u f cs) k ≡ change u f (seat cs k)
-seat_changed u f cs k = get_or_map (change u f) cs k vacant
+seat_changed u f cs k = get_or-map (change u f) cs k vacant
 
 -- after a write: the place itself, in range, or another
 pub seat_set : (cs : List Connection) (p k : ℕ) (v : Connection) → p < length cs → ((k ≡ p) × (seat (set cs p v) k ≡ v)) ⊎ ((k ≡ p → ⊥) × (seat (set cs p v) k ≡ seat cs k))

@@ -1,7 +1,7 @@
 -- The law of runs: every call keeps the book right, so every list of calls does.
 use Rattle.std.proofs.Common.{◌≡◌, ℕ, ◌<◌, Bool, true, false, cond, not, ◌&&◌, eqb, ltb, leb, List, [], ◌∷◌, length, set, Some, None, Ok, Err, Option, Result, sym, refl, ap, ◌∙◌, subst, arith, length-set}
 use lib.ListN.{length-map}
-use Rattle.std.proofs.lemmas.Bool.{not_false, or_parts, leb-false, eq-eqb}
+use Rattle.std.proofs.lemmas.Bool.{not-false, or_parts, leb-false, eq-eqb}
 use Rattle.rules.specs.Radio.{Radio}
 use Rattle.rules.specs.State.{State, silent}
 use Rattle.rules.specs.Connections.{closed, preparing, of_ue, any_connection, state_at, reopened, changed, vacant, moved_to, at_place}
@@ -60,7 +60,7 @@ module _ {m : Radio} (laws : Laws m) (k : ℕ) (b : Book) (x : State m) (r : Rig
       let n₄ = no_reason (any_ticket u x.tickets) (refusal reason.TicketOut 0) _ n₃.1 in
       let n₅ = no_reason (leb 16 (free_ticket x)) (refusal reason.TicketsGone 0) None n₄.1 in
       subst (λ t. Right k (record { rabs = take_reports 0 [] (start u x).reports b.rabs; tickets = hand_out t (start u x).reports b.tickets }) (start u x).state) (sym q)
-      (started k b x r u (not_false (any_connection (of_ue u) x.connections) n₃.0) n₄.0 (leb-false 16 (free_ticket x) n₅.0))
+      (started k b x r u (not-false (any_connection (of_ue u) x.connections) n₃.0) n₄.0 (leb-false 16 (free_ticket x) n₅.0))
 
   start_right : (n u : ℕ) → Right k (note (entry (to_start n u) x) b) (step (to_start n u) x).state
   start_right n u = start_when n u (next_ticket x, length (step (to_start n u) x).reports) (start_refusal n u x) refl refl
@@ -112,7 +112,7 @@ module _ {m : Radio} (laws : Laws m) (k : ℕ) (b : Book) (x : State m) (r : Rig
         ticks = subst (λ t. Ticks (loss_at p b.tickets) t.1 t.2) (sym e) (lost_or_still p low t refl);
       }
   handled_right (relocation_command p) once low on =
-      let prep : preparing (state_at p x) ≡ true = not_false (preparing (state_at p x)) on in
+      let prep : preparing (state_at p x) ≡ true = not-false (preparing (state_at p x)) on in
       record {
         number = r.number;
         wide = length-set x.connections p (moved_to Prepared (at_place p x)) ∙ r.wide;
@@ -120,7 +120,7 @@ module _ {m : Radio} (laws : Laws m) (k : ℕ) (b : Book) (x : State m) (r : Rig
         ticks = ticks_command b.tickets x.connections x.tickets r.ticks p low prep;
       }
   handled_right (relocation_preparation_failure p) once low on =
-      let prep : preparing (state_at p x) ≡ true = not_false (preparing (state_at p x)) on in
+      let prep : preparing (state_at p x) ≡ true = not-false (preparing (state_at p x)) on in
       record {
         number = r.number;
         wide = length-map x.connections (change (ue_at p x) reopened) ∙ r.wide;

@@ -1,7 +1,7 @@
 -- An item's turn keeps book and state together: refused, kept, queued, done or released.
 use Rattle.std.proofs.Common.{◌≡◌, ℕ, ◌<◌, ◌≤◌, Bool, true, false, cond, not, eqb, leb, List, [], Some, None, Option, sym, refl, ap, ◌∙◌, subst, ⊎_elim, arith}
 use Rattle.std.proofs.lemmas.Bool.Decides.{nat_tests}
-use Rattle.std.proofs.lemmas.Bool.{cases_Bool, or_right, leb_true, both_ways}
+use Rattle.std.proofs.lemmas.Bool.{cases_Bool, or_right, leb-true, both_ways}
 use Rattle.rules.specs.Radio.{Radio}
 use Rattle.rules.specs.State.{State, each}
 use Rattle.rules.specs.Tables.{is_some, waits_as}
@@ -70,7 +70,7 @@ module _ {m : Radio} (laws : Laws m) (fp : ℕ) (is : List ReadItem) (todo : ℕ
   undenied q a l x g asked size some not_yet None e = refl
   undenied q a l x g asked size some not_yet (Some b) e =
       ⊎_elim
-      (λ less. absurd (both_ways (admitted x q) not_yet (trade_admitted laws (one_more todo q.place q.rab) l x g q b e some (omega (arith, leb_true a.size b.size less)))))
+      (λ less. absurd (both_ways (admitted x q) not_yet (trade_admitted laws (one_more todo q.place q.rab) l x g q b e some (omega (arith, leb-true a.size b.size less)))))
       (λ more. ap (λ t. cond {A = ℕ} t 1 0) more)
       (cases_Bool (leb a.size b.size))
 

@@ -1,6 +1,6 @@
 -- The tickets after an opening, a command, a loss and a closing.
 use Rattle.std.proofs.Common.{◌≡◌, ℕ, ◌+◌, ◌<◌, Bool, true, false, cond, not, ◌&&◌, ◌||◌, eqb, List, ◌∷◌, map, length, get_or, set, Some, None, Option, sym, refl, ap, ◌∙◌, subst, ⊎_elim}
-use lib.ListN.{length-map, get_or_map}
+use lib.ListN.{length-map, get_or-map}
 use Rattle.std.proofs.lemmas.Bool.{both_ways, cases_Bool, true≢false, eqb-true, eqb-false, eq-eqb, ne_eqb}
 use Rattle.rules.specs.Message.{among}
 use Rattle.rules.specs.Connections.{closed, preparing, prepared, relocating, reopened, of_ue, moved_to, changed, any_connection, vacant}
@@ -167,7 +167,7 @@ module _ (b : Tickets) (cs : List Connection) (ts : List (Option TicketRecord)) 
   ticks_loss p there =
       let u = (seat cs p).ue in
       record {
-        slots = λ i. subst (λ o. Slot (with_loss p (b.out i)) o (changed u reopened cs)) (sym (get_or_map (stopped u) ts i None)) (loss_slot p there (b.out i) (get_or ts i None) (h.slots i));
+        slots = λ i. subst (λ o. Slot (with_loss p (b.out i)) o (changed u reopened cs)) (sym (get_or-map (stopped u) ts i None)) (loss_slot p there (b.out i) (get_or ts i None) (h.slots i));
         one_each = one_stopped u ts h.one_each;
         count = h.count ∙ ap (λ n. b.given_back + n) (sym (out_stopped u ts));
         wide = length-map ts (stopped u) ∙ h.wide;

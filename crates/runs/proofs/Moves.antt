@@ -1,6 +1,6 @@
 -- Connections that move and those that do not; a change for one UE leaves the others, a stopped ticket is the same UE's.
 use Rattle.std.proofs.Common.{◌≡◌, ℕ, suc, Bool, true, false, cond, not, ◌&&◌, eqb, List, [], ◌∷◌, map, length, get_or, Some, None, filter, Option, sym, refl, ap, ◌∙◌, arith}
-use lib.ListN.{get_or_map}
+use lib.ListN.{get_or-map}
 use Rattle.std.proofs.lemmas.Bool.{both_ways, and_parts, eqb-true, ne_eqb}
 use Rattle.rules.specs.Tables.{is_some}
 use Rattle.rules.specs.Connections.{closed, preparing, relocating, reopened, of_ue, moved_to, changed}
@@ -83,8 +83,8 @@ stopped_ue u (Some s) t e = (s, refl, at (eqb s.ue u) e)
 
 pub one_stopped : (u : ℕ) (ts : List (Option TicketRecord)) → OneEach ts → OneEach (map (stopped u) ts)
 one_stopped u ts h i j s t e f q =
-    let a = stopped_ue u (get_or ts i None) s (sym (get_or_map (stopped u) ts i None) ∙ e) in
-    let c = stopped_ue u (get_or ts j None) t (sym (get_or_map (stopped u) ts j None) ∙ f) in
+    let a = stopped_ue u (get_or ts i None) s (sym (get_or-map (stopped u) ts i None) ∙ e) in
+    let c = stopped_ue u (get_or ts j None) t (sym (get_or-map (stopped u) ts j None) ∙ f) in
     h i j a.0 c.0 a.1 c.1 (a.2 ∙ q ∙ sym c.2)
 
 pub out_stopped : (u : ℕ) (ts : List (Option TicketRecord)) → length (filter is_some (map (stopped u) ts)) ≡ length (filter is_some ts)

@@ -1,6 +1,6 @@
 -- The RABs' side after each accepted call: open, a frame of items, a command, an execute, a withdraw.
 use Rattle.std.proofs.Common.{◌≡◌, ℕ, ◌<◌, Bool, true, false, cond, not, ◌&&◌, List, [], ◌∷◌, length, set, Some, None, Option, sym, refl, ap, ◌∙◌, subst, ⊎_elim}
-use Rattle.std.proofs.lemmas.Bool.{cases_Bool, not-true, not_false, and_parts, true≢false}
+use Rattle.std.proofs.lemmas.Bool.{cases_Bool, not-true, not-false, and_parts, true≢false}
 use Rattle.rules.specs.Radio.{Radio}
 use Rattle.rules.specs.State.{State, Outcome, each, silent, at_connections, at_tickets}
 use Rattle.rules.specs.Connections.{opened, preparing, prepared, of_ue, changed, moved_to, any_connection, each_of_ue, at_place, state_at, places_of}
@@ -46,7 +46,7 @@ prepared_shut Executed e = refl
 pub each_seat : (u : ℕ) (test : ConnectionState → Bool) (cs : List Connection) → each_of_ue u test cs ≡ true → (k : ℕ) → of_ue u (seat cs k) ≡ true → test (seat cs k).state ≡ true
 each_seat u test cs e k mine =
     let n = none_seat (λ c. of_ue u c && not (test c.state)) refl cs (not-true (any_connection (λ c. of_ue u c && not (test c.state)) cs) e) k in
-    not_false (test (seat cs k).state) (sym (ap (λ t. t && not (test (seat cs k).state)) mine) ∙ n)
+    not-false (test (seat cs k).state) (sym (ap (λ t. t && not (test (seat cs k).state)) mine) ∙ n)
 
 module _ {m : Radio} where
   each_quiet : {X : Type 0} (f : X → State m → Outcome m) → ((a : X) (x : State m) → Quiet (f a x).state) → (as' : List X) (x : State m) → Quiet x → Quiet (each f as' x).state

@@ -1,6 +1,6 @@
 -- The tickets after an execute and a withdraw.
 use Rattle.std.proofs.Common.{◌≡◌, ℕ, ◌+◌, Bool, true, false, cond, eqb, List, map, get_or, set, Some, None, Option, sym, refl, ap, ◌∙◌, subst, arith}
-use lib.ListN.{length-map, get_or_map}
+use lib.ListN.{length-map, get_or-map}
 use Rattle.std.proofs.lemmas.Bool.{ne_eqb}
 use Rattle.rules.specs.Radio.{Radio}
 use Rattle.rules.specs.State.{State, silent}
@@ -38,8 +38,8 @@ module _ (b : Tickets) (cs : List Connection) (ts : List (Option TicketRecord)) 
   spent_called_off =
       let u = t.ue in
       ticks_back b (changed u reopened cs) (map (stopped u) ts) n (cond (eqb t.ue u) (record { ue = t.ue; running = false }) t)
-      (get_or_map (stopped u) ts n.number None ∙ ap (stopped u) out)
-      (λ j off. subst (λ o. Slot (b.out j) o (changed u reopened cs)) (sym (get_or_map (stopped u) ts j None ∙ stopped_other u (get_or ts j None) (other_ue j off))) (others_run reopened j off))
+      (get_or-map (stopped u) ts n.number None ∙ ap (stopped u) out)
+      (λ j off. subst (λ o. Slot (b.out j) o (changed u reopened cs)) (sym (get_or-map (stopped u) ts j None ∙ stopped_other u (get_or ts j None) (other_ue j off))) (others_run reopened j off))
       (one_stopped u ts h.one_each) (h.count ∙ ap (λ z. b.given_back + z) (sym (out_stopped u ts))) (length-map ts (stopped u) ∙ h.wide)
 
   spent_only : Ticks (take_back n b) cs (set ts n.number None)

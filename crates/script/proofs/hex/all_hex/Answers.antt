@@ -8,8 +8,8 @@ use Rattle.std.proofs.lemmas.Bool.Decides.{nat_tests}
 step : (bs : List ℕ) (i : ℕ) → i < length bs → all_hex (drop i bs) ≡ (hex (get_or bs i 0) && all_hex (drop (i + 1) bs))
 step bs i l = at_drop_more all_hex bs i 0 l
 
-pub returns-then-not-is-hex : goal.returns-then-not-is-hex
-returns-then-not-is-hex c =
+pub returns-then-not-is_hex : goal.returns-then-not-is_hex
+returns-then-not-is_hex c =
     let e = step c.args.word.now c.loop-b.b-index c.loop-b-test.true in grind (arith, nat_tests)
 
 pub loop-b-preserved : goal.loop-b-preserved

@@ -7,8 +7,8 @@ pub loop-left-preserved : goal.loop-left-preserved
 loop-left-preserved c =
     let left = c.loop-left.left.now in
     let two : 2 ≤ length left = omega arith in
-    one_byte_more (vec_items c.loop-left.bytes) (vec_items c.push.new.self) left _ c.byte-of.result two
-    c.byte-of.ensures (take_rest left 2) c.in-ok-push.ensures.items ∙ c.loop-left.invariant
+    one_byte_more (vec_items c.loop-left.bytes) (vec_items c.push.new.self) left _ c.byte_of.result two
+    c.byte_of.ensures (take_rest left 2) c.in_ok-push.ensures.items ∙ c.loop-left.invariant
 
 pub returns : goal.returns
 returns c =

@@ -11,4 +11,4 @@ loop-cut-preserved c =
     one_more bytes_of (gathered bytes_of (words c.args.text.now)) (vec_items c.loop-cut.bytes) word
     (words c.loop-cut.left.now) (words c.in-Some.cut.rest.now) c.in-Some.ensures.cut c.loop-cut.invariant
     (vec_items c.spell.new.bytes) (pairs_of word)
-    (sym (ap (λ o. bytes_unless o (pairs_of word)) c.in-default-group-fault.ensures)) c.in-ok-spell.ensures
+    (sym (ap (λ o. bytes_unless o (pairs_of word)) c.in_default-group_fault.ensures)) c.in_ok-spell.ensures

@@ -9,4 +9,4 @@ loop-cut-preserved c =
     one_more grant_named (gathered grant_named (words c.args.text.now)) (vec_items c.loop-cut.named) c.in-Some.cut.word.now
     (words c.loop-cut.left.now) (words c.in-Some.cut.rest.now) c.in-Some.ensures.cut c.loop-cut.invariant
     (vec_items c.push.new.self) (c.in-Ok.n ∷ [])
-    (sym (ap (λ r. then r (λ grant. Ok (grant ∷ []))) c.in-Ok.ensures)) c.in-ok-push.ensures.items
+    (sym (ap (λ r. then r (λ grant. Ok (grant ∷ []))) c.in-Ok.ensures)) c.in_ok-push-in-Ok.ensures.items

@@ -8,8 +8,8 @@ use Rattle.std.proofs.lemmas.Bool.Decides.{nat_tests}
 step : (bs : List ℕ) (i : ℕ) → i < length bs → all_digits (drop i bs) ≡ (digit (get_or bs i 0) && all_digits (drop (i + 1) bs))
 step bs i l = at_drop_more all_digits bs i 0 l
 
-pub returns-then-not-is-digit : goal.returns-then-not-is-digit
-returns-then-not-is-digit c =
+pub returns-then-not-is_digit : goal.returns-then-not-is_digit
+returns-then-not-is_digit c =
     let e = step c.args.word.now c.loop-b.b-index c.loop-b-test.true in grind (arith, nat_tests)
 
 pub loop-b-preserved : goal.loop-b-preserved

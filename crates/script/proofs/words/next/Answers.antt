@@ -5,19 +5,19 @@ use Rattle.script.specs.Words.{words}
 use Rattle.std.proofs.lemmas.List.{nil_from_length}
 use Rattle.std.proofs.lemmas.Bool.{eqb-true, eqb-false}
 
-pub returns-then-is-empty : goal.returns-then-is-empty
-returns-then-is-empty c =
-    let none = nil_from_length c.split-at.result.1.now (eqb-true _ 0 (sym c.if-is-empty.ensures)) in
-    record { cut = sym c.spaces.ensures.same ∙ ap words (sym c.split-at.ensures.back ∙ none); shorter = tt }
+pub returns-then-is_empty : goal.returns-then-is_empty
+returns-then-is_empty c =
+    let none = nil_from_length c.split_at.result.1.now (eqb-true _ 0 (sym c.if-is_empty.ensures)) in
+    record { cut = sym c.spaces.ensures.same ∙ ap words (sym c.split_at.ensures.back ∙ none); shorter = tt }
 
 pub returns : goal.returns
 returns c =
     let text = c.args.text.now in
-    let trimmed = c.split-at.result.1.now in
-    let back = c.split-at.ensures.back in
-    let end = c.word-length.ensures in
-    let cut = c.split-at-2.ensures in
-    let some : 0 < length trimmed = omega (arith, eqb-false _ 0 (sym c.if-is-empty.ensures)) in
-    let found = first_word text trimmed c.spaces.result back c.spaces.ensures.stops some c.word-length.result end.within end.stops (ap words back ∙ c.spaces.ensures.same) end.begun in
-    let less = less_left text trimmed c.spaces.result back c.spaces.ensures.stops some c.word-length.result end.within end.stops in
+    let trimmed = c.split_at.result.1.now in
+    let back = c.split_at.ensures.back in
+    let end = c.word_length.ensures in
+    let cut = c.split_at-2.ensures in
+    let some : 0 < length trimmed = omega (arith, eqb-false _ 0 (sym c.if-is_empty.ensures)) in
+    let found = first_word text trimmed c.spaces.result back c.spaces.ensures.stops some c.word_length.result end.within end.stops (ap words back ∙ c.spaces.ensures.same) end.begun in
+    let less = less_left text trimmed c.spaces.result back c.spaces.ensures.stops some c.word_length.result end.within end.stops in
     record { cut = cc; shorter = omega (arith, ap length cut.back) }

@@ -1,5 +1,5 @@
 use Rattle.std.proofs.Common.{◌≡◌, ◌<◌, true, get_or, set, sym, ap, ◌∙◌, subst, arith}
-use Rattle.std.proofs.lemmas.Bool.{cond_true, lt-ltb}
+use Rattle.std.proofs.lemmas.Bool.{cond-true, lt-ltb}
 use Rattle.rules.specs.Radio.{gives}
 use Rattle.admission.specs.Tree.{Tree, codes}
 use Rattle.admission.specs.TreeRules.{Cleared}
@@ -21,6 +21,6 @@ returns c =
     in
     record {
       answer = sym does;
-      state = state ∙ sym (cond_true (gives codes x g) (codes.given x g) x does);
+      state = state ∙ sym (cond-true (gives codes x g) (codes.given x g) x does);
       rule = λ _. subst (λ y. Cleared x y g) (sym state) (cleared x g);
     }

@@ -1,5 +1,5 @@
 use Rattle.std.proofs.Common.{◌≡◌, ℕ, true, length, get_or, set, Some, sym, ap, ◌∙◌, subst, arith, rules}
-use Rattle.std.proofs.lemmas.Bool.{cond_true}
+use Rattle.std.proofs.lemmas.Bool.{cond-true}
 use Rattle.rules.specs.Grants.{nothing}
 use Rattle.rules.specs.Radio.{takes}
 use Rattle.admission.specs.Tree.{Tree, codes, free_leaves, block_for}
@@ -26,6 +26,6 @@ returns c =
     in
     record {
       answer = sym does;
-      state = state ∙ sym (cond_true (takes codes x g s) (codes.taken x g s) x does);
+      state = state ∙ sym (cond-true (takes codes x g s) (codes.taken x g s) x does);
       rule = λ _. subst (λ y. Placed x y g s) (sym state) (placed x g s does);
     }
