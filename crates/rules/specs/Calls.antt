@@ -1,5 +1,5 @@
 -- The six calls and the question: what is answered, reported and changed, for every input.
-use Rattle.std.specs.Prelude.{ℕ, zero, suc, Bool, true, false, [], length, set, replicate, Some, None, Ok, Err, Option, Result, slice_set}
+use Rattle.std.specs.Prelude.{ℕ, zero, suc, Bool, true, false, [], length, replicate, Some, None, Ok, Err, Option, Result, slice_set}
 use Rattle.rules.specs.Radio.{Radio, after_give}
 use Rattle.rules.specs.State.{State, Outcome, silent, at_connections}
 use Rattle.rules.specs.Tables.{is_some, set_up_as, waits_as}

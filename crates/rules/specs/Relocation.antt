@@ -3,7 +3,7 @@ use Rattle.std.specs.Prelude.{ℕ, Bool, true, false, cond, not, ◌&&◌, List,
 use Rattle.rules.specs.Radio.{Radio}
 use Rattle.rules.specs.State.{State, Outcome, silent, then, at_connections, at_tickets}
 use Rattle.rules.specs.Tables.{is_some, first_from}
-use Rattle.rules.specs.Connections.{of_ue, changed, reopened, at_place, places_of, moved_to, prepared, preparing, each_of_ue}
+use Rattle.rules.specs.Connections.{of_ue, changed, reopened, at_place, places_of, moved_to, prepared, each_of_ue}
 use Rattle.rules.specs.Actions.{report, fail_all}
 use Rattle.rules.specs.declared.bearer.Request.{Request}
 use Rattle.rules.specs.declared.connection.ConnectionState.TheVariants.{Preparing, Prepared, Executed}

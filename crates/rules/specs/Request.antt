@@ -1,5 +1,5 @@
 -- One request, at its turn.
-use Rattle.std.specs.Prelude.{ℕ, cond, not, List, Some, None, Option}
+use Rattle.std.specs.Prelude.{ℕ, cond, List, Some, None, Option}
 use Rattle.rules.specs.Radio.{Radio}
 use Rattle.rules.specs.State.{State, Outcome, tell, then, each}
 use Rattle.rules.specs.Tables.{set_up_as, waits_as}

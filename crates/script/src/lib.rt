@@ -1,4 +1,6 @@
 // What one line of a script says.
+#![tactic(auto)]
+
 ghost use Rattle.script.specs.Saying.{heard};
 ghost use Rattle.script.specs.Script.{meaning, comment, may_take_memory};
 ghost use Rattle.std.specs.Prelude.{◌≡◌, true, IfOk, OnErr};
