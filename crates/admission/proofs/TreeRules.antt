@@ -1,11 +1,11 @@
 -- That the definitions of the code tree say what its rules say.
-use Rattle.std.proofs.Common.{◌≡◌, ℕ, ◌+◌, ◌*◌, ◌/◌, ◌%◌, ◌<◌, ◌≤◌, Bool, true, eqb, ◌⊎◌, is_some, Some, None, Decides, Option, refl, ap, ◌∙◌, subst, ⊎_elim, mul-le-mul_right, add-mul, div-add-mod', arith}
+use Rattle.std.proofs.Common.{◌≡◌, ℕ, ◌+◌, ◌*◌, ◌/◌, ◌%◌, ◌<◌, ◌≤◌, Bool, true, eqb, is_some, Some, None, Decides, Option, refl, ap, ◌∙◌, subst, ⊎_elim, mul-le-mul_right, add-mul, div-add-mod', arith}
 use Rattle.std.proofs.lemmas.Nat.{le-div, mod-mul-add}
 use Rattle.std.proofs.lemmas.Bool.{cases_lt, both_ways, cond-true, cond-false, eq-eqb, ne_eqb}
 use Rattle.std.proofs.lemmas.Bool.Decides.{nat_tests}
 use Rattle.rules.specs.Grants.{nothing}
 use Rattle.rules.specs.Radio.{takes}
-use Rattle.admission.specs.Tree.{Tree, codes, rounded, free_leaves, block_free, lowest, block_for, in_block, left_by}
+use Rattle.admission.specs.Tree.{Tree, codes, rounded, free_leaves, block_free, block_for, in_block, left_by}
 use Rattle.admission.specs.TreeRules.{RoundsUp, FreeBlock, RoomFor, Placed, Cleared}
 use Rattle.admission.specs.Obeyed.{takes_parts}
 use Rattle.admission.specs.RangesLemmas.{all_each, all_made}

@@ -1,4 +1,6 @@
 // The radio pools of a RAB controller: what they hold, admit, take and give back.
+#![tactic(auto)]
+
 mod grants;
 mod pool;
 mod rate;

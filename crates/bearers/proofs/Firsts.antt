@@ -1,5 +1,5 @@
 -- The first entry of a RAB: where it stands, what it is, and the table without it.
-use Rattle.std.proofs.Common.{◌≡◌, ℕ, zero, suc, ◌+◌, Bool, true, false, cond, List, [], ◌∷◌, get_or, Some, None, Option, sym, refl, ap, ◌∙◌, subst, arith}
+use Rattle.std.proofs.Common.{◌≡◌, ℕ, suc, ◌+◌, Bool, true, false, cond, List, [], ◌∷◌, get_or, Some, None, Option, sym, refl, ap, ◌∙◌, subst, arith}
 use Rattle.bearers.specs.Search.{first_at, first_of}
 use Rattle.rules.specs.Tables.{is_some, of_rab, asks_for, set_up_as, waits_as, without_bearer, without_request}
 use Rattle.rules.specs.declared.bearer.Bearer.{Bearer}

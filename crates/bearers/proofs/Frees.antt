@@ -1,5 +1,5 @@
 -- The search for the first number that passes, one number further.
-use Rattle.std.proofs.Common.{◌≡◌, ℕ, zero, suc, ◌+◌, ◌-◌, ◌<◌, ◌≤◌, Bool, true, false, cond, sym, refl, ap, ◌∙◌, add-one, arith}
+use Rattle.std.proofs.Common.{◌≡◌, ℕ, suc, ◌+◌, ◌-◌, ◌<◌, ◌≤◌, Bool, true, false, cond, sym, ap, ◌∙◌, add-one, arith}
 use Rattle.rules.specs.Tables.{first_from}
 
 at_number : (test : ℕ → Bool) (k n : ℕ) (b : Bool) → test k ≡ b → first_from test k (suc n) ≡ cond b k (first_from test (suc k) n)

@@ -1,5 +1,5 @@
 -- What the tables always keep, after each change.
-use Rattle.std.proofs.Common.{◌≡◌, ℕ, ◌<◌, ◌≤◌, Bool, true, false, cond, not, ◌&&◌, ◌||◌, ltb, List, [], ◌∷◌, ◌++◌, length, None, sym, refl, ap, ◌∙◌, subst, ⊎_elim, arith}
+use Rattle.std.proofs.Common.{◌≡◌, ℕ, ◌<◌, ◌≤◌, Bool, true, false, cond, not, ◌&&◌, ◌||◌, ltb, List, [], ◌∷◌, ◌++◌, length, None, ap, ⊎_elim, arith}
 use Rattle.bearers.proofs.Known.{known_without, known_with, fewer, new_append, room_for, waiting_known}
 use Rattle.bearers.proofs.Ranges.{good_without, good_with, requests_without, requests_append}
 use Rattle.bearers.proofs.Standing.{once_from, ascending_without, ascending_with}

@@ -1,12 +1,11 @@
 -- How many RABs are known: what each change of the tables does to the number.
-use Rattle.std.proofs.Common.{◌≡◌, ℕ, zero, suc, ◌+◌, ◌<◌, ◌≤◌, Bool, true, false, cond, not, ◌&&◌, ◌||◌, eqb, ltb, leb, ◌⊎◌, List, [], ◌∷◌, ◌++◌, length, Some, None, filter, Option, sym, refl, ap, ◌∙◌, subst, inl, inr, ⊎_elim, arith, length-append}
+use Rattle.std.proofs.Common.{◌≡◌, ℕ, suc, ◌+◌, ◌≤◌, Bool, true, false, cond, not, ◌&&◌, eqb, List, [], ◌∷◌, ◌++◌, length, Some, None, filter, sym, refl, ap, ◌∙◌, subst, arith, length-append}
 use Rattle.rules.specs.Tables.{is_some, of_rab, asks_for, set_up_as, waits_as, before, with_bearer, without_bearer, without_request, fresh, known_in}
 use Rattle.rules.specs.declared.bearer.Bearer.{Bearer}
 use Rattle.rules.specs.declared.bearer.Request.{Request}
-use Rattle.std.proofs.lemmas.Bool.{cases_eq, and_parts, and_from, not-true, not_from_false}
 use Rattle.std.proofs.lemmas.Bool.Decides.{nat_tests}
 use Rattle.bearers.proofs.Standing.{Once, once_lookup, set_with}
-use Rattle.bearers.proofs.Waiting.{Apart, apart_append, key_cases, none_head}
+use Rattle.bearers.proofs.Waiting.{Apart, apart_append, none_head}
 
 -- how many requests wait for a set-up
 abbrev pub newcomers : List Bearer → List Request → ℕ

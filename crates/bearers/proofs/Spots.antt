@@ -1,5 +1,5 @@
 -- A RAB put at its spot is the table with that RAB.
-use Rattle.std.proofs.Common.{◌≡◌, ℕ, zero, suc, ◌+◌, ◌<◌, ◌≤◌, Bool, true, false, cond, List, [], ◌∷◌, length, get_or, drop, refl, ap, ◌∙◌, arith}
+use Rattle.std.proofs.Common.{◌≡◌, ℕ, suc, ◌+◌, ◌<◌, ◌≤◌, Bool, true, false, cond, List, [], ◌∷◌, length, get_or, drop, refl, ap, ◌∙◌, arith}
 use Rattle.bearers.specs.Spot.{spot_of}
 use Rattle.rules.specs.Tables.{before, with_bearer}
 use Rattle.rules.specs.declared.bearer.Bearer.{Bearer}

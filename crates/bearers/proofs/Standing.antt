@@ -1,9 +1,8 @@
 -- Look-ups among the set-up RABs: after one has left the table, and after one has come.
-use Rattle.std.proofs.Common.{◌≡◌, ℕ, zero, suc, ◌+◌, ◌<◌, ◌≤◌, Bool, true, false, cond, not, ◌&&◌, ◌||◌, eqb, ltb, leb, ◌⊎◌, List, [], ◌∷◌, ◌++◌, length, Some, None, filter, Option, sym, refl, ap, ◌∙◌, subst, inl, inr, ⊎_elim, arith}
-use Rattle.rules.specs.Tables.{is_some, of_rab, asks_for, set_up_as, waits_as, before, with_bearer, without_bearer, without_request, fresh, known_in}
+use Rattle.std.proofs.Common.{◌≡◌, ℕ, Bool, true, false, cond, ◌&&◌, eqb, List, [], ◌∷◌, Some, None, sym, refl, ap, ◌∙◌, subst, ⊎_elim, arith}
+use Rattle.rules.specs.Tables.{of_rab, set_up_as, before, with_bearer, without_bearer}
 use Rattle.rules.specs.declared.bearer.Bearer.{Bearer}
-use Rattle.rules.specs.declared.bearer.Request.{Request}
-use Rattle.std.proofs.lemmas.Bool.{cases_eq, cases_order, and_parts, and_from, not-true, not_from_false}
+use Rattle.std.proofs.lemmas.Bool.{cases_order, and_parts, and_from}
 use Rattle.std.proofs.lemmas.Bool.Decides.{nat_tests}
 use Rattle.bearers.proofs.Waiting.{key_cases, cond_same}
 use Rattle.bearers.specs.Order.{heads, ascending}

@@ -1,9 +1,8 @@
 -- Look-ups in the queue: after a request has left it, and after one has come.
-use Rattle.std.proofs.Common.{◌≡◌, ℕ, zero, suc, ◌+◌, ◌<◌, ◌≤◌, Bool, true, false, cond, not, ◌&&◌, ◌||◌, eqb, ltb, leb, ◌⊎◌, List, [], ◌∷◌, ◌++◌, length, Some, None, filter, Option, sym, refl, ap, ◌∙◌, subst, inl, inr, ⊎_elim, arith}
-use Rattle.rules.specs.Tables.{is_some, of_rab, asks_for, set_up_as, waits_as, before, with_bearer, without_bearer, without_request, fresh, known_in}
-use Rattle.rules.specs.declared.bearer.Bearer.{Bearer}
+use Rattle.std.proofs.Common.{◌≡◌, ℕ, Bool, true, false, cond, not, ◌&&◌, eqb, ◌⊎◌, List, [], ◌∷◌, ◌++◌, Some, None, Option, sym, refl, ap, ◌∙◌, subst, inl, inr, ⊎_elim, arith}
+use Rattle.rules.specs.Tables.{is_some, asks_for, waits_as, without_request}
 use Rattle.rules.specs.declared.bearer.Request.{Request}
-use Rattle.std.proofs.lemmas.Bool.{cases_eq, and_parts, and_from, not-true, not_from_false}
+use Rattle.std.proofs.lemmas.Bool.{cases_eq, and_parts, and_from, not-true}
 use Rattle.std.proofs.lemmas.Bool.Decides.{nat_tests}
 use Rattle.bearers.specs.Order.{apart}
 

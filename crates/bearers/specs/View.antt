@@ -1,5 +1,5 @@
 -- What the tables hold, as lists; and when a RAB may be entered, or a request queued.
-use Rattle.std.specs.Prelude.{ℕ, Bool, not, ◌&&◌, ◌||◌, List, vec_items, nat_lt}
+use Rattle.std.specs.Prelude.{Bool, not, ◌&&◌, ◌||◌, List, vec_items, nat_lt}
 use Rattle.rules.specs.Tables.{is_some, set_up_as, waits_as, known_in}
 use Rattle.rules.specs.declared.bearer.Bearer.{Bearer}
 use Rattle.rules.specs.declared.bearer.Request.{Request}

@@ -1,4 +1,6 @@
 // The tables of the controller that have no radio pool in them: set-up RABs, waiting requests, connections, tickets.
+#![tactic(auto)]
+
 mod connections;
 mod tables;
 mod tickets;

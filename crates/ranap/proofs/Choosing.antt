@@ -1,5 +1,5 @@
 -- What an Option says of the test that chose it.
-use Rattle.std.proofs.Common.{◌≡◌, ℕ, Bool, true, false, cond, Some, None, Option, refl, arith}
+use Rattle.std.proofs.Common.{◌≡◌, ℕ, Bool, true, false, cond, Some, None, refl, arith}
 
 pub some_test : {X : Type 0} (b : Bool) {p q : X} → Some q ≡ cond b (Some p) None → (b ≡ true) × (q ≡ p)
 some_test true e = (refl, cc)

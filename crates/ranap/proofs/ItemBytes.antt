@@ -1,5 +1,5 @@
 -- The bytes of an item, where they stand in the frame, and its shape.
-use Rattle.std.proofs.Common.{◌≡◌, ℕ, ◌+◌, ◌-◌, ◌<◌, ◌≤◌, true, ◌&&◌, eqb, ltb, List, length, take, drop, sym, ap, ◌∙◌, subst, inl, inr, ⊎_elim, add-zero, arith}
+use Rattle.std.proofs.Common.{◌≡◌, ℕ, ◌+◌, ◌<◌, ◌≤◌, true, ◌&&◌, eqb, ltb, List, length, take, drop, sym, ap, ◌∙◌, subst, inl, inr, ⊎_elim, add-zero, arith}
 use Rattle.ranap.specs.Formed.{Assigns, Releases, Shaped, offset_at, length_at}
 use Rattle.rules.specs.Frame.{byte, pair_at, bytes_at, assign_good, release_good, item_good}
 use Rattle.std.proofs.lemmas.List.{get_or-take, get_or-drop, length-take-le, length-drop}

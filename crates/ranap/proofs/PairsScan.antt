@@ -1,5 +1,5 @@
 -- The search for the first bad pair, told pair by pair.
-use Rattle.std.proofs.Common.{◌≡◌, ℕ, zero, suc, ◌+◌, ◌*◌, ◌<◌, Bool, true, false, ◌&&◌, ◌||◌, eqb, leb, ◌⊎◌, List, length, drop, Some, None, Option, sym, refl, ap, subst, inl, inr, ⊎_elim, add-one, arith, below_none, below_more}
+use Rattle.std.proofs.Common.{◌≡◌, ℕ, zero, suc, ◌+◌, ◌*◌, ◌<◌, Bool, true, false, ◌&&◌, ◌||◌, eqb, leb, List, length, drop, Some, None, Option, sym, refl, ap, subst, inl, inr, ⊎_elim, add-one, arith, below_none, below_more}
 use Rattle.ranap.proofs.PairsPass.{fault_on, fault_here, no_fault}
 use Rattle.ranap.specs.Formed.{Placed, free_from, offset_at, length_at}
 use Rattle.rules.specs.Frame.{count_at, pair_at, pairs_of, pair_good, pair_fault}

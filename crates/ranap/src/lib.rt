@@ -1,4 +1,6 @@
 // The two lower layers of the Iu interface: reading a frame, and checking its message.
+#![tactic(auto)]
+
 mod checker;
 mod head;
 mod items;

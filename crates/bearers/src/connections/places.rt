@@ -157,6 +157,13 @@ impl Connections {
         !self.has(ue, Which::Unprepared)
     }
 
+    // The UE's relocation has ended: its connections are open again, but for executed ones.
+    pub fn reopen(&mut self, ue: u32)
+        ensures { connections_of self.new ≡ changed ue reopened (connections_of self.old) }
+    {
+        self.change(ue, Change::Reopen);
+    }
+
     // All connections of the UE are changed, the others stay as they are.
     pub fn change(&mut self, ue: u32, change: Change)
         ensures { connections_of self.new ≡ changed ue (changed_by change) (connections_of self.old) }

@@ -52,7 +52,7 @@ impl Entry for Request {
 
 // Where the first entry of a RAB stands.
 pub(super) fn index_of<T: Entry>(all: &[T], place: u8, rab: u8) -> Option<usize>
-    ensures answer { result ≡ first_at (belongs place rab) 0 all.now }
+    ensures answer { result ≡ first_at (T.belongs place rab) 0 all.now }
     ensures within { IfSome result (λ i. i < length all.now) }
 {
     for (i, entry) in all.iter().enumerate() {

@@ -5,6 +5,6 @@ use Rattle.std.proofs.Common.{sym, subst}
 
 pub returns : goal.returns
 returns c = record {
-  answer = c.first-repeat.ensures;
-  distinct = subst (Checks c.args.items.now) (sym c.first-repeat.ensures) (checks c.args.items.now);
+  answer = c.first_repeat.ensures;
+  distinct = subst (Checks c.args.items.now) (sym c.first_repeat.ensures) (checks c.args.items.now);
 }

@@ -20,7 +20,7 @@ returns-then-seen-rab c =
     let x = get_or is i blank_item in
     let rab : c.from-rab.result ≡ rab_of x.item = c.from-rab.ensures ∙ c.rab.ensures in
     let seen : among (rab_of x.item) s ≡ true =
-    ap (λ k. among k s) (sym rab) ∙ sym (c.loop-item.invariant.1.1 c.from-rab.result (omega (arith, c.from-rab.ensures, c.rab.type-inv))) ∙ c.if-seen-rab.true
+    ap (λ k. among k s) (sym rab) ∙ sym (c.loop-item.invariant.1.1 c.from-rab.result (omega (arith, c.from-rab.ensures, c.rab.type_inv))) ∙ c.if-seen-rab.true
     in
     let here : repeats_among s (drop i is) ≡ Some x.offset =
     at_drop_more (repeats_among s) is i blank_item c.loop-item-test.true ∙
@@ -35,7 +35,7 @@ loop-item-preserved c =
     let s = c.loop-item.invariant.1.0 in
     let x = get_or is i blank_item in
     let rab : c.from-rab.result ≡ rab_of x.item = c.from-rab.ensures ∙ c.rab.ensures in
-    let small : c.from-rab.result < 256 = omega (arith, c.from-rab.ensures, c.rab.type-inv) in
+    let small : c.from-rab.result < 256 = omega (arith, c.from-rab.ensures, c.rab.type_inv) in
     let unseen : among (rab_of x.item) s ≡ false = ap (λ k. among k s) (sym rab) ∙ sym (c.loop-item.invariant.1.1 c.from-rab.result small) ∙ c.if-seen-rab.false in
     let on : repeats_among s (drop i is) ≡ repeats_among (rab_of x.item ∷ s) (drop (i + 1) is) =
     at_drop_more (repeats_among s) is i blank_item c.loop-item-test.true ∙

@@ -5,12 +5,12 @@ use Rattle.ranap.specs.Steps.{unless_fault}
 use Rattle.rules.specs.Frame.{pair_at, pair_good, end_of}
 use Rattle.std.proofs.Common.{◌≡◌, length, Err, sym, ap, ◌∙◌}
 
-pub returns-in-default : goal.returns-in-default
-returns-in-default c =
+pub returns-in_default : goal.returns-in_default
+returns-in_default c =
     let bs = c.args.frame.now in
-    let bad = none_test (pair_good (length bs) c.loop-i.from (pair_at bs c.loop-i.i)) (pair_at bs c.loop-i.i) c.in-default.ensures in
+    let bad = none_test (pair_good (length bs) c.loop-i.from (pair_at bs c.loop-i.i)) (pair_at bs c.loop-i.i) c.in_default.ensures in
     let here = fault_here bs c.args.count c.loop-i.i c.loop-i-test.true (length bs) c.loop-i.from bad in
-    ap Err c.broken-at.ensures ∙ ap unless_fault (sym here ∙ c.loop-i.invariant)
+    ap Err c.broken_at.ensures ∙ ap unless_fault (sym here ∙ c.loop-i.invariant)
 
 pub loop-i-preserved : goal.loop-i-preserved
 loop-i-preserved c =

@@ -7,6 +7,6 @@ returns c =
     let bs = c.args.frame.now in
     let p = c.args.pair in
     let long : c.end.result - c.from.result ≡ p.length = omega (arith, c.end.ensures, c.from.ensures) in
-    c.item-of.ensures ∙
+    c.item_of.ensures ∙
     ap (λ n. cond (item_good (take n (drop c.from.result bs))) (Some (item_in (take n (drop c.from.result bs)))) None) long ∙
     ap (λ a. cond (item_good (take p.length (drop a bs))) (Some (item_in (take p.length (drop a bs)))) None) c.from.ensures

@@ -7,5 +7,5 @@ use Rattle.std.proofs.Common.{sym, ◌∙◌, subst}
 pub returns : goal.returns
 returns c =
     let bs = c.args.frame.now in
-    let same = c.read-frame.ensures ∙ chained bs in
+    let same = c.read_frame.ensures ∙ chained bs in
     record { answer = same; formed = subst (Reads bs) (sym same) (accepts bs) }

@@ -9,11 +9,11 @@ no_fault_then : (o : Option ℕ) → Ok tt ≡ unless_fault o → o ≡ None
 no_fault_then None e = refl
 no_fault_then (Some p) e = let z : ◌≡◌ {A = ℕ} 0 1 = cc in absurd (omega arith)
 
-pub read-items-requires : goal.read-items-requires
-read-items-requires c =
+pub read_items-requires : goal.read_items-requires
+read_items-requires c =
     let bs = c.args.frame.now in
     let n = c.args.count in
-    let none = no_fault_then (pair_fault (length bs) 0 (4 + 4 * n) (pairs_of bs n)) c.in-ok-check-pairs.ensures in
+    let none = no_fault_then (pair_fault (length bs) 0 (4 + 4 * n) (pairs_of bs n)) c.in_ok-check_pairs.ensures in
     let from = ap (λ k. pair_fault (length bs) 0 (4 + 4 * k) (pairs_of bs n)) c.requires.0 in
     let all : PairVerdict bs n None = subst (PairVerdict bs n) (sym from ∙ none) (pairs_told bs n) in
     (c.requires.1.0, (c.requires.1.1, λ i l. (all i l).inside))

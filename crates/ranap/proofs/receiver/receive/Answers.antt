@@ -5,6 +5,6 @@ use Rattle.std.proofs.Common.{sym, subst}
 
 pub returns : goal.returns
 returns c = record {
-  answer = c.read-and-check.ensures;
-  accepted = subst (Receives c.args.frame.now) (sym c.read-and-check.ensures) (receives c.args.frame.now);
+  answer = c.read_and_check.ensures;
+  accepted = subst (Receives c.args.frame.now) (sym c.read_and_check.ensures) (receives c.args.frame.now);
 }

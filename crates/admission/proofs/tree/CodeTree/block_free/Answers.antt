@@ -5,8 +5,8 @@ use Rattle.admission.specs.Views.{tree_of}
 use Rattle.admission.specs.RangesLemmas.{all_next, all_fails, all_done}
 use Rattle.admission.proofs.tree.CodeTree.block_free.Goals as goal
 
-pub returns-then-not-leaf-free : goal.returns-then-not-leaf-free
-returns-then-not-leaf-free c =
+pub returns-then-not-leaf_free : goal.returns-then-not-leaf_free
+returns-then-not-leaf_free c =
     let free : ℕ → Bool = free_leaves (tree_of c.args.self.now) (member c.args.given.now) in
     let fails : free c.loop-leaf.leaf ≡ false = cc in
     sym (all_fails free c.loop-leaf.leaf (c.args.start + c.args.width) (omega arith) fails) ∙ c.loop-leaf.invariant

@@ -6,11 +6,11 @@ use Rattle.admission.specs.RangesLemmas.{first_next, first_found, first_done}
 use Rattle.admission.specs.Widths.{block_within}
 use Rattle.admission.proofs.tree.CodeTree.lowest_block.Goals as goal
 
-pub block-free-requires : goal.block-free-requires
-block-free-requires c = block_within c.args.width c.loop-block.block c.requires.1 (omega arith)
+pub block_free-requires : goal.block_free-requires
+block_free-requires c = block_within c.args.width c.loop-block.block c.requires.1 (omega arith)
 
-pub returns-then-block-free : goal.returns-then-block-free
-returns-then-block-free c =
+pub returns-then-block_free : goal.returns-then-block_free
+returns-then-block_free c =
     let test : ℕ → Bool = block_free (free_leaves (tree_of c.args.self.now) (member c.args.given.now)) c.args.width in
     let passes : test c.loop-block.block ≡ true = cc in
     record {

@@ -15,9 +15,9 @@ returns c =
     let x : Tree = tree_of t in
     let some : 0 < get_or t.sizes g 0 = omega arith in
     let does : gives codes x g ≡ true = lt-ltb 0 (get_or t.sizes g 0) some in
-    let sizes = ap (λ xs k. get_or (set xs g 0) k 0) c.move-out.ensures.sizes ∙ written t.sizes g 0 (stands_within t.sizes g some) in
-    let state : tree_of (record { owners = c.move-out.new.self.owners; sizes = set c.move-out.new.self.sizes g 0 }) ≡ codes.given x g =
-    λ i. record { sizes = sizes i; owner = c.move-out.ensures.owner i }
+    let sizes = ap (λ xs k. get_or (set xs g 0) k 0) c.move_out.ensures.sizes ∙ written t.sizes g 0 (stands_within t.sizes g some) in
+    let state : tree_of (record { owners = c.move_out.new.self.owners; sizes = set c.move_out.new.self.sizes g 0 }) ≡ codes.given x g =
+    λ i. record { sizes = sizes i; owner = c.move_out.ensures.owner i }
     in
     record {
       answer = sym does;

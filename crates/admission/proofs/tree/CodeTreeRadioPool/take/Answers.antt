@@ -20,9 +20,9 @@ returns c =
     let found : Some j ≡ block_for (free_leaves x nothing) s = c.in-Some.ensures.value ∙ ap (λ n. block_for (free_leaves x n) s) c.empty.ensures in
     let does : takes codes x g s ≡ true = takes_where x g s j (omega arith) (omega arith) found in
     let n : length t.sizes ≡ 64 = search rules in
-    let sizes = ap (λ xs k. get_or (set xs g s) k 0) c.move-in.ensures.sizes ∙ written t.sizes g s (omega arith) in
-    let state : tree_of (record { owners = c.move-in.new.self.owners; sizes = set c.move-in.new.self.sizes g s }) ≡ codes.taken x g s =
-    taken_where x g s j c.width.result _ _ found c.width.ensures.value sizes c.move-in.ensures.owner
+    let sizes = ap (λ xs k. get_or (set xs g s) k 0) c.move_in.ensures.sizes ∙ written t.sizes g s (omega arith) in
+    let state : tree_of (record { owners = c.move_in.new.self.owners; sizes = set c.move_in.new.self.sizes g s }) ≡ codes.taken x g s =
+    taken_where x g s j c.width.result _ _ found c.width.ensures.value sizes c.move_in.ensures.owner
     in
     record {
       answer = sym does;

@@ -12,8 +12,8 @@ moved u h k = cond (of_ue u k) (moved_to (changed_by h k.state) k) k
 
 pub loop-i-preserved : goal.loop-i-preserved
 loop-i-preserved c =
-    mapped_more (moved c.args.ue c.args.change) c.args.self.now.all c.loop-i.self.all c.loop-i.i vacant c.changed-for.result
-    (omega (arith, c.loop-i-test.true, c.args.self.now.wide)) (omega (arith, c.loop-i-test.true, c.loop-i.self.wide)) c.loop-i.invariant c.changed-for.ensures
+    mapped_more (moved c.args.ue c.args.change) c.args.self.now.all c.loop-i.self.all c.loop-i.i vacant c.changed_for.result
+    (omega (arith, c.loop-i-test.true, c.args.self.now.wide)) (omega (arith, c.loop-i-test.true, c.loop-i.self.wide)) c.loop-i.invariant c.changed_for.ensures
 
 pub returns : goal.returns
 returns c =

@@ -10,15 +10,15 @@ step : (test : Connection → Bool) (cs : List Connection) (i : ℕ) (b : Bool) 
     any_connection test (drop i cs) ≡ (b || any_connection test (drop (i + 1) cs))
 step test cs i b l e = at_drop_more (any_connection test) cs i vacant l ∙ ap (λ v. v || any_connection test (drop (i + 1) cs)) e
 
-pub returns-then-is-such : goal.returns-then-is-such
-returns-then-is-such c =
+pub returns-then-is_such : goal.returns-then-is_such
+returns-then-is_such c =
     let test = such c.args.which c.args.ue in
-    sym (step test c.args.self.now.all c.loop-c.c-index true (omega (arith, c.loop-c-test.true, c.args.self.now.wide)) (sym c.if-is-such.ensures)) ∙ c.loop-c.invariant
+    sym (step test c.args.self.now.all c.loop-c.c-index true (omega (arith, c.loop-c-test.true, c.args.self.now.wide)) (sym c.if-is_such.ensures)) ∙ c.loop-c.invariant
 
 pub loop-c-preserved : goal.loop-c-preserved
 loop-c-preserved c =
     let test = such c.args.which c.args.ue in
-    sym (step test c.args.self.now.all c.loop-c.c-index false (omega (arith, c.loop-c-test.true, c.args.self.now.wide)) (sym c.if-is-such.ensures)) ∙ c.loop-c.invariant
+    sym (step test c.args.self.now.all c.loop-c.c-index false (omega (arith, c.loop-c-test.true, c.args.self.now.wide)) (sym c.if-is_such.ensures)) ∙ c.loop-c.invariant
 
 pub returns : goal.returns
 returns c =

@@ -1,4 +1,4 @@
-use Rattle.std.proofs.Common.{◌≡◌, ◌<◌, true, cond, List, length, is_ok, vec_items, sym, refl, ap, ◌∙◌, subst, arith, rules}
+use Rattle.std.proofs.Common.{◌≡◌, ◌<◌, true, cond, length, is_ok, vec_items, sym, refl, ap, ◌∙◌, subst, arith}
 use Rattle.bearers.proofs.Keeps.{Kept, keeps_with, enters_room}
 use Rattle.bearers.proofs.Spots.{spot_within, lands}
 use Rattle.bearers.proofs.tables.RabTables.enter.Goals as goal
@@ -6,15 +6,14 @@ use Rattle.bearers.proofs.tables.RabTables.enter.Goals.{After-insert}
 use Rattle.bearers.specs.Spot.{spot_of}
 use Rattle.bearers.specs.View.{bearers_of, queue_of, enterable}
 use Rattle.rules.specs.Tables.{with_bearer}
-use Rattle.rules.specs.declared.bearer.Bearer.{Bearer}
 use Rattle.std.specs.List.{insert}
 
 -- where it is put
 at-spot : (c : goal.After-insert) → c.spot-at.result ≡ spot_of c.args.b (bearers_of c.args.self.now)
-at-spot c = c.spot-at.ensures ∙ ap (spot_of c.args.b) c.as-slice.ensures.value
+at-spot c = c.spot-at.ensures ∙ ap (spot_of c.args.b) c.as_slice.ensures.value
 
 may : (c : goal.After-insert) → enterable c.args.b (bearers_of c.args.self.now) (queue_of c.args.self.now) ≡ true
-may c = sym c.if-not-is-enterable.ensures
+may c = sym c.if-not-is_enterable.ensures
 
 kept-before : (c : goal.After-insert) → Kept (bearers_of c.args.self.now) (queue_of c.args.self.now)
 kept-before c = let t = c.args.self.now in record { sorted = t.sorted; single = t.single; few = t.few; ranges = t.ranges }
@@ -35,15 +34,22 @@ pub insert-requires : goal.insert-requires
 insert-requires c =
     let bs = bearers_of c.args.self.now in
     let s = spot_within c.args.b bs in
-    let e : c.spot-at.result ≡ spot_of c.args.b bs = c.spot-at.ensures ∙ ap (spot_of c.args.b) c.as-slice.ensures.value in
+    let e : c.spot-at.result ≡ spot_of c.args.b bs = c.spot-at.ensures ∙ ap (spot_of c.args.b) c.as_slice.ensures.value in
     omega (arith, s, e, c.args.self.now.bearers.ok.0)
 
-pub invariant-of-self : goal.invariant-of-self
-invariant-of-self c =
+pub invariant_of-self : goal.invariant_of-self
+invariant_of-self c =
     let t = c.args.self.now in
     let k = keeps_with (bearers_of t) (queue_of t) (kept-before c) c.args.b (may c) in
     let h : Kept (vec_items c.insert.new.self) (queue_of t) = subst (λ bs. Kept bs (queue_of t)) (sym (after c)) k in
-    (h.sorted, (h.single, (h.few, (h.ranges, (omega (arith, c.insert.ensures.capacity, t.bearers_reserved), (t.queue_reserved, tt))))))
+    record {
+      sorted = h.sorted;
+      single = h.single;
+      few = h.few;
+      ranges = h.ranges;
+      bearers_reserved = omega (arith, c.insert.ensures.capacity, t.bearers_reserved);
+      queue_reserved = t.queue_reserved;
+    }
 
 pub returns : goal.returns
 returns c = let e = (goal.at.returns c).After-insert in record { answer = sym (may e); bearers = after e; queue = refl }

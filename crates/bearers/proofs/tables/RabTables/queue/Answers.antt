@@ -12,7 +12,7 @@ returns c =
     let known = waiting_known (bearers_of t) (queue_of t) (apart_from (queue_of t) t.single) in
     let few : length (queue_of t) ≤ 64 = omega (arith, known, t.few) in
     record {
-      answer = c.as-slice.ensures.value;
-      good = ap requests_good c.as-slice.ensures.value ∙ (and_parts (bearers_good (bearers_of t)) (requests_good (queue_of t)) t.ranges).1;
-      few = subst (λ xs. length xs ≤ 64) (sym c.as-slice.ensures.value) few;
+      answer = c.as_slice.ensures.value;
+      good = ap requests_good c.as_slice.ensures.value ∙ (and_parts (bearers_good (bearers_of t)) (requests_good (queue_of t)) t.ranges).1;
+      few = subst (λ xs. length xs ≤ 64) (sym c.as_slice.ensures.value) few;
     }

@@ -8,15 +8,15 @@ use Rattle.rules.specs.declared.connection.TicketRecord.{TicketRecord}
 abbrev unused : List (Option TicketRecord) → ℕ → Bool
 unused ts k = not (is_some (get_or ts k None))
 
-pub returns-then-not-is-out : goal.returns-then-not-is-out
-returns-then-not-is-out c =
+pub returns-then-not-is_out : goal.returns-then-not-is_out
+returns-then-not-is_out c =
     let ts = c.args.self.now.all in
-    sym (free_here (unused ts) 16 c.loop-number.number c.loop-number-test.true (ap not (sym c.if-not-is-out.ensures))) ∙ c.loop-number.invariant
+    sym (free_here (unused ts) 16 c.loop-number.number c.loop-number-test.true (ap not (sym c.if-not-is_out.ensures))) ∙ c.loop-number.invariant
 
 pub loop-number-preserved : goal.loop-number-preserved
 loop-number-preserved c =
     let ts = c.args.self.now.all in
-    sym (free_more (unused ts) 16 c.loop-number.number c.loop-number-test.true (ap not (sym c.if-not-is-out.ensures))) ∙ c.loop-number.invariant
+    sym (free_more (unused ts) 16 c.loop-number.number c.loop-number-test.true (ap not (sym c.if-not-is_out.ensures))) ∙ c.loop-number.invariant
 
 pub returns : goal.returns
 returns c =
