@@ -22,7 +22,7 @@ impl<P: RadioPool> Controller<P> {
         reports: &mut [Report],
         n: usize,
     ) -> usize
-        ensures { Gave (fail_waiting cause place rab (view radio state self.old)) (view radio state self.new) (page reports.old n) (page reports.new result) }
+        ensures { Gave (fail_waiting cause place rab (view P.radio P.state self.old)) (view P.radio P.state self.new) (page reports.old n) (page reports.new result) }
     {
         match self.rabs.request(place, rab) {
             None => n,
@@ -45,7 +45,7 @@ impl<P: RadioPool> Controller<P> {
 
     // A set-up RAB's grant is given back, and it stands in the table no more.
     pub(super) fn free_bearer(&mut self, b: &Bearer)
-        ensures { view radio state self.new ≡ free_bearer b.now (view radio state self.old) }
+        ensures { view P.radio P.state self.new ≡ free_bearer b.now (view P.radio P.state self.old) }
     {
         self.rabs.remove_bearer(b.place, b.rab);
         let _ = self.pool.give(b.grant);
@@ -60,7 +60,7 @@ impl<P: RadioPool> Controller<P> {
         reports: &mut [Report],
         n: usize,
     ) -> usize
-        ensures { Gave (drop_bearer kind cause b.now (view radio state self.old)) (view radio state self.new) (page reports.old n) (page reports.new result) }
+        ensures { Gave (drop_bearer kind cause b.now (view P.radio P.state self.old)) (view P.radio P.state self.new) (page reports.old n) (page reports.new result) }
     {
         self.free_bearer(b);
         put(
@@ -78,7 +78,7 @@ impl<P: RadioPool> Controller<P> {
 
     // The smallest grant number that is not held; 63 where all before it are.
     fn free_grant(&self) -> u8
-        ensures answer { result ≡ free_grant (view radio state self.now) }
+        ensures answer { result ≡ free_grant (view P.radio P.state self.now) }
         ensures small { result < 64 }
     {
         for g in 0..63u8 {
@@ -91,8 +91,8 @@ impl<P: RadioPool> Controller<P> {
 
     // A new grant is taken, and the RAB stands in the table.
     fn enter_new(&mut self, q: &Request)
-        requires { Ready q.now (view radio state self.old) }
-        ensures { view radio state self.new ≡ (establish q.now (view radio state self.old)).state }
+        requires { Ready q.now (view P.radio P.state self.old) }
+        ensures { view P.radio P.state self.new ≡ (establish q.now (view P.radio P.state self.old)).state }
     {
         let grant = self.free_grant();
         let _ = self.pool.take(grant, q.size);
@@ -107,8 +107,8 @@ impl<P: RadioPool> Controller<P> {
 
     // A RAB is set up with a new grant: kind 1, with the size that it now has.
     pub(super) fn establish(&mut self, q: &Request, reports: &mut [Report], n: usize) -> usize
-        requires { Ready q.now (view radio state self.old) }
-        ensures { Gave (establish q.now (view radio state self.old)) (view radio state self.new) (page reports.old n) (page reports.new result) }
+        requires { Ready q.now (view P.radio P.state self.old) }
+        ensures { Gave (establish q.now (view P.radio P.state self.old)) (view P.radio P.state self.new) (page reports.old n) (page reports.new result) }
     {
         self.enter_new(q);
         put(
@@ -126,8 +126,8 @@ impl<P: RadioPool> Controller<P> {
 
     // A request waits, behind those that came before: kind 2.
     pub(super) fn enqueue(&mut self, q: &Request, reports: &mut [Report], n: usize) -> usize
-        requires { Waitable q.now (view radio state self.old) }
-        ensures { Gave (enqueue q.now (view radio state self.old)) (view radio state self.new) (page reports.old n) (page reports.new result) }
+        requires { Waitable q.now (view P.radio P.state self.old) }
+        ensures { Gave (enqueue q.now (view P.radio P.state self.old)) (view P.radio P.state self.new) (page reports.old n) (page reports.new result) }
     {
         let _ = self.rabs.enqueue(*q);
         put(

@@ -16,8 +16,8 @@ use rules::report::{Cause, Report, ReportKind};
 impl<P: RadioPool> Controller<P> {
     // An item whose RAB does not wait: it fails by its first fault, keeps the size in use, or asks for a size.
     fn assign_anew(&mut self, place: u8, a: &Assignment, reports: &mut [Report], n: usize) -> usize
-        requires { waits_as place a.now.rab (view radio state self.old).queue ≡ None }
-        ensures { Gave (assign_anew place a.now (view radio state self.old)) (view radio state self.new) (page reports.old n) (page reports.new result) }
+        requires { waits_as place a.now.rab (view P.radio P.state self.old).queue ≡ None }
+        ensures { Gave (assign_anew place a.now (view P.radio P.state self.old)) (view P.radio P.state self.new) (page reports.old n) (page reports.new result) }
     {
         let own = self.rabs.bearer(place, a.rab);
         if let Some(cause) = self.fault(a, own) {
@@ -57,7 +57,7 @@ impl<P: RadioPool> Controller<P> {
         reports: &mut [Report],
         n: usize,
     ) -> usize
-        ensures { Gave (assign place a.now (view radio state self.old)) (view radio state self.new) (page reports.old n) (page reports.new result) }
+        ensures { Gave (assign place a.now (view P.radio P.state self.old)) (view P.radio P.state self.new) (page reports.old n) (page reports.new result) }
     {
         let at = self.fail_waiting(Cause::RequestSuperseded, place, a.rab, reports, n);
         self.assign_anew(place, a, reports, at)

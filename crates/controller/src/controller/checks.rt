@@ -78,7 +78,7 @@ fn is_ill_valued(a: &Assignment) -> bool
 impl<P: RadioPool> Controller<P> {
     // The first cause for which an item fails, if there is one.
     pub(super) fn fault(&self, a: &Assignment, own: Option<Bearer>) -> Option<Cause>
-        ensures { result ≡ fault_of a.now own (view radio state self.now) }
+        ensures { result ≡ fault_of a.now own (view P.radio P.state self.now) }
     {
         if is_ill_combined(a, own) {
             return Some(Cause::InvalidCombination);

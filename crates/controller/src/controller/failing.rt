@@ -14,7 +14,7 @@ use rules::report::{Cause, Report};
 
 impl<P: RadioPool> Controller<P> {
     fn is_meant(&self, whose: Whose, q: &Request) -> bool
-        ensures { result ≡ meant whose (view radio state self.now) q.now }
+        ensures { result ≡ meant whose (view P.radio P.state self.now) q.now }
     {
         match whose {
             Whose::OnPlace(place) => q.place == place,
@@ -24,7 +24,7 @@ impl<P: RadioPool> Controller<P> {
 
     // The first that waits.
     fn first_meant(&self, whose: Whose) -> Option<Request>
-        ensures { result ≡ first_of (meant whose (view radio state self.now)) (view radio state self.now).queue }
+        ensures { result ≡ first_of (meant whose (view P.radio P.state self.now)) (view P.radio P.state self.now).queue }
     {
         for q in self.rabs.queue() {
             if self.is_meant(whose, q) {
@@ -42,7 +42,7 @@ impl<P: RadioPool> Controller<P> {
         reports: &mut [Report],
         n: usize,
     ) -> usize
-        ensures { Gave (fail_meant cause whose (view radio state self.old)) (view radio state self.new) (page reports.old n) (page reports.new result) }
+        ensures { Gave (fail_meant cause whose (view P.radio P.state self.old)) (view P.radio P.state self.new) (page reports.old n) (page reports.new result) }
     {
         let mut at = n;
         while let Some(q) = self.first_meant(whose) {

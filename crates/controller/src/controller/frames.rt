@@ -21,7 +21,7 @@ use rules::report::Report;
 impl<P: RadioPool> Controller<P> {
     // The first reason against a message, by the state of its connection.
     fn message_refusal(&self, message: &Message) -> Option<Refusal>
-        ensures { result ≡ message_refusal (saying message.now) (view radio state self.now) }
+        ensures { result ≡ message_refusal (saying message.now) (view P.radio P.state self.now) }
     {
         let place = message.place();
         if 15 < place {
@@ -39,7 +39,7 @@ impl<P: RadioPool> Controller<P> {
     }
 
     fn handle(&mut self, message: &Message, reports: &mut [Report]) -> usize
-        ensures { Gave (handled (saying message.now) (view radio state self.old)) (view radio state self.new) (page reports.old 0) (page reports.new result) }
+        ensures { Gave (handled (saying message.now) (view P.radio P.state self.old)) (view P.radio P.state self.new) (page reports.old 0) (page reports.new result) }
     {
         match message {
             Message::RabAssignmentRequest(place, items) => {
@@ -57,9 +57,9 @@ impl<P: RadioPool> Controller<P> {
     // A frame has arrived. The count of reports is answered: they stand in the first places of the list,
     // and the others hold what they held.
     pub fn frame(&mut self, bytes: &[u8], reports: &mut [Report]) -> Result<usize, Refusal>
-        ensures answer { result ≡ frame_answer (length reports.old) (received bytes.now) (view radio state self.old) }
-        ensures state { view radio state self.new ≡ (frame_outcome (length reports.old) (received bytes.now) (view radio state self.old)).state }
-        ensures list { reports.new ≡ listed (frame_outcome (length reports.old) (received bytes.now) (view radio state self.old)).reports reports.old }
+        ensures answer { result ≡ frame_answer (length reports.old) (received bytes.now) (view P.radio P.state self.old) }
+        ensures state { view P.radio P.state self.new ≡ (frame_outcome (length reports.old) (received bytes.now) (view P.radio P.state self.old)).state }
+        ensures list { reports.new ≡ listed (frame_outcome (length reports.old) (received bytes.now) (view P.radio P.state self.old)).reports reports.old }
     {
         if reports.len() < 288 {
             return Err(short_list());

@@ -29,7 +29,7 @@ enum Pass {
 impl<P: RadioPool> Controller<P> {
     // A release item at its turn; on a relocating connection it fails with cause 3.
     fn release_turn(&mut self, place: u8, rab: u8, reports: &mut [Report], n: usize) -> usize
-        ensures { Gave (if opened (state_at place (view radio state self.old)) then release place rab (view radio state self.old) else refuse NotReleased place rab RelocationTriggered (view radio state self.old)) (view radio state self.new) (page reports.old n) (page reports.new result) }
+        ensures { Gave (if opened (state_at place (view P.radio P.state self.old)) then release place rab (view P.radio P.state self.old) else refuse NotReleased place rab RelocationTriggered (view P.radio P.state self.old)) (view P.radio P.state self.new) (page reports.old n) (page reports.new result) }
     {
         if self.is_open(place) {
             return self.release(place, rab, reports, n);
@@ -49,7 +49,7 @@ impl<P: RadioPool> Controller<P> {
 
     // Any other item at its turn, likewise.
     fn assign_turn(&mut self, place: u8, a: &Assignment, reports: &mut [Report], n: usize) -> usize
-        ensures { Gave (if opened (state_at place (view radio state self.old)) then assign place a.now (view radio state self.old) else refuse Failed place a.now.rab RelocationTriggered (view radio state self.old)) (view radio state self.new) (page reports.old n) (page reports.new result) }
+        ensures { Gave (if opened (state_at place (view P.radio P.state self.old)) then assign place a.now (view P.radio P.state self.old) else refuse Failed place a.now.rab RelocationTriggered (view P.radio P.state self.old)) (view P.radio P.state self.new) (page reports.old n) (page reports.new result) }
     {
         if self.is_open(place) {
             return self.assign(place, a, reports, n);
@@ -68,14 +68,14 @@ impl<P: RadioPool> Controller<P> {
     }
 
     fn release_item(&mut self, place: u8, rab: u8, reports: &mut [Report], n: usize) -> usize
-        ensures { Gave (release_item place rab (view radio state self.old)) (view radio state self.new) (page reports.old n) (page reports.new result) }
+        ensures { Gave (release_item place rab (view P.radio P.state self.old)) (view P.radio P.state self.new) (page reports.old n) (page reports.new result) }
     {
         let at = self.release_turn(place, rab, reports, n);
         self.serve(reports, at)
     }
 
     fn assign_item(&mut self, place: u8, a: &Assignment, reports: &mut [Report], n: usize) -> usize
-        ensures { Gave (assign_item place a.now (view radio state self.old)) (view radio state self.new) (page reports.old n) (page reports.new result) }
+        ensures { Gave (assign_item place a.now (view P.radio P.state self.old)) (view P.radio P.state self.new) (page reports.old n) (page reports.new result) }
     {
         let at = self.assign_turn(place, a, reports, n);
         self.serve(reports, at)
@@ -89,7 +89,7 @@ impl<P: RadioPool> Controller<P> {
         reports: &mut [Report],
         n: usize,
     ) -> usize
-        ensures { Gave (each (release_item place) (releases items.now) (view radio state self.old)) (view radio state self.new) (page reports.old n) (page reports.new result) }
+        ensures { Gave (each (release_item place) (releases items.now) (view P.radio P.state self.old)) (view P.radio P.state self.new) (page reports.old n) (page reports.new result) }
     {
         let mut at = n;
         for (i, read) in items.iter().enumerate() {
@@ -109,7 +109,7 @@ impl<P: RadioPool> Controller<P> {
         reports: &mut [Report],
         n: usize,
     ) -> usize
-        ensures { Gave (each (assign_item place) (assignments items.now) (view radio state self.old)) (view radio state self.new) (page reports.old n) (page reports.new result) }
+        ensures { Gave (each (assign_item place) (assignments items.now) (view P.radio P.state self.old)) (view P.radio P.state self.new) (page reports.old n) (page reports.new result) }
     {
         let mut at = n;
         for (i, read) in items.iter().enumerate() {
@@ -130,7 +130,7 @@ impl<P: RadioPool> Controller<P> {
         reports: &mut [Report],
         n: usize,
     ) -> usize
-        ensures { Gave (passed pass place items.now (view radio state self.old)) (view radio state self.new) (page reports.old n) (page reports.new result) }
+        ensures { Gave (passed pass place items.now (view P.radio P.state self.old)) (view P.radio P.state self.new) (page reports.old n) (page reports.new result) }
     {
         match pass {
             Pass::Releases => self.release_items(place, items, reports, n),
@@ -146,7 +146,7 @@ impl<P: RadioPool> Controller<P> {
         reports: &mut [Report],
         n: usize,
     ) -> usize
-        ensures { Gave (assignment place items.now (view radio state self.old)) (view radio state self.new) (page reports.old n) (page reports.new result) }
+        ensures { Gave (assignment place items.now (view P.radio P.state self.old)) (view P.radio P.state self.new) (page reports.old n) (page reports.new result) }
     {
         let at = self.pass(Pass::Releases, place, items, reports, n);
         self.pass(Pass::Others, place, items, reports, at)

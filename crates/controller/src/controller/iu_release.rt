@@ -13,7 +13,7 @@ use rules::report::{Cause, Report, ReportKind};
 impl<P: RadioPool> Controller<P> {
     // The place's set-up RABs are gone with their connection, by RAB ID.
     fn drop_place(&mut self, place: u8, reports: &mut [Report], n: usize) -> usize
-        ensures { Gave (drop_place place (view radio state self.old)) (view radio state self.new) (page reports.old n) (page reports.new result) }
+        ensures { Gave (drop_place place (view P.radio P.state self.old)) (view P.radio P.state self.new) (page reports.old n) (page reports.new result) }
     {
         let mut at = n;
         while let Some(b) = self.rabs.bearer_at(place) {
@@ -24,14 +24,14 @@ impl<P: RadioPool> Controller<P> {
 
     // The place is closed, and the queue served.
     fn close_and_serve(&mut self, place: u8, reports: &mut [Report], n: usize) -> usize
-        ensures { Gave (serve (close place (view radio state self.old))) (view radio state self.new) (page reports.old n) (page reports.new result) }
+        ensures { Gave (serve (close place (view P.radio P.state self.old))) (view P.radio P.state self.new) (page reports.old n) (page reports.new result) }
     {
         self.connections.close(place);
         self.serve(reports, n)
     }
 
     pub(super) fn iu_release(&mut self, place: u8, reports: &mut [Report], n: usize) -> usize
-        ensures { Gave (iu_release place (view radio state self.old)) (view radio state self.new) (page reports.old n) (page reports.new result) }
+        ensures { Gave (iu_release place (view P.radio P.state self.old)) (view P.radio P.state self.new) (page reports.old n) (page reports.new result) }
     {
         let ended = self.end_if_running(place, reports, n);
         let failed = self.fail_all(Cause::IuReleased, Whose::OnPlace(place), reports, ended);

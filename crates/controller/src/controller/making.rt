@@ -10,7 +10,7 @@ use std::alloc::{AllocError, Global};
 
 // Every grant that the pool holds is given back, from 0 upward.
 fn give_back_all<P: RadioPool>(pool: &mut P)
-    ensures { state pool.new ≡ given_back radio 64 (state pool.old) }
+    ensures { P.state pool.new ≡ given_back P.radio 64 (P.state pool.old) }
 {
     for grant in 0..64u8 {
         pool.give(grant);
@@ -21,7 +21,7 @@ impl<P: RadioPool + Drop> Controller<P> {
     // A controller with every place closed and nothing known, over a pool that it empties first.
     // Room for the tables is made here: no later call wants memory.
     pub fn new(number: u16, pool: P, heap: Global) -> Result<Controller<P>, AllocError>
-        ensures { IfOk result (λ c. view radio state c ≡ new_state radio number (state pool)) }
+        ensures { IfOk result (λ c. view P.radio P.state c ≡ new_state P.radio number (P.state pool)) }
     {
         let rabs = RabTables::new(heap)?;
         let mut emptied = pool;

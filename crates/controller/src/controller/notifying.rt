@@ -31,7 +31,7 @@ impl<P: RadioPool> Controller<P> {
         reports: &mut [Report],
         n: usize,
     ) -> usize
-        ensures { page reports.new result ≡ write_all (if told except ue place (at_place place (view radio state self.now)) then notice what place ∷ [] else []) (page reports.old n) }
+        ensures { page reports.new result ≡ write_all (if told except ue place (at_place place (view P.radio P.state self.now)) then notice what place ∷ [] else []) (page reports.old n) }
     {
         if !self.connections.is_of(place, ue) {
             return n;
@@ -51,7 +51,7 @@ impl<P: RadioPool> Controller<P> {
         reports: &mut [Report],
         n: usize,
     ) -> usize
-        ensures { page reports.new result ≡ write_all (notices_from what except ue 0 (view radio state self.now).connections) (page reports.old n) }
+        ensures { page reports.new result ≡ write_all (notices_from what except ue 0 (view P.radio P.state self.now).connections) (page reports.old n) }
     {
         let mut at = n;
         for place in 0..16u8 {

@@ -21,7 +21,7 @@ fn is_closed(state: ConnectionState) -> bool
 impl<P: RadioPool> Controller<P> {
     // The first reason against a connection.
     fn open_refusal(&self, place: u8, ue: u32, domain: u8) -> Option<Refusal>
-        ensures { result ≡ open_refusal place ue domain (view radio state self.now) }
+        ensures { result ≡ open_refusal place ue domain (view P.radio P.state self.now) }
     {
         if 15 < place {
             return Some(at_place(Reason::BadPlace, place));
@@ -45,8 +45,8 @@ impl<P: RadioPool> Controller<P> {
 
     // The UE's connection in a domain, 0 CS or 1 PS, opens at a place from 0 to 15.
     pub fn open(&mut self, place: u8, ue: u32, domain: u8) -> Result<(), Refusal>
-        ensures answer { result ≡ open_answer place ue domain (view radio state self.old) }
-        ensures state { view radio state self.new ≡ (open_outcome place ue domain (view radio state self.old)).state }
+        ensures answer { result ≡ open_answer place ue domain (view P.radio P.state self.old) }
+        ensures state { view P.radio P.state self.new ≡ (open_outcome place ue domain (view P.radio P.state self.old)).state }
     {
         if let Some(refusal) = self.open_refusal(place, ue, domain) {
             return Err(refusal);

@@ -28,14 +28,14 @@ fn own_set(own: Option<Bearer>) -> GrantSet
 impl<P: RadioPool> Controller<P> {
     // Whether the connection at a place is open.
     pub(super) fn is_open(&self, place: u8) -> bool
-        ensures { result ≡ opened (state_at place (view radio state self.now)) }
+        ensures { result ≡ opened (state_at place (view P.radio P.state self.now)) }
     {
         matches!(self.connections.at(place).state, ConnectionState::Open)
     }
 
     // Whether a request would be admitted, a modification with its own grant given back.
     pub(super) fn is_admitted(&self, q: &Request) -> bool
-        ensures { result ≡ admitted (view radio state self.now) q.now }
+        ensures { result ≡ admitted (view P.radio P.state self.now) q.now }
     {
         let own = self.rabs.bearer(q.place, q.rab);
         self.pool.room(&own_set(own), q.size)
@@ -43,7 +43,7 @@ impl<P: RadioPool> Controller<P> {
 
     // Whether a RAB of this level may be pre-empted for a request.
     fn is_candidate(&self, b: &Bearer, q: &Request, level: u8) -> bool
-        ensures { result ≡ candidate q.now (view radio state self.now) level b.now }
+        ensures { result ≡ candidate q.now (view P.radio P.state self.now) level b.now }
     {
         b.priority.level == level
             && q.priority.level < level
@@ -55,7 +55,7 @@ impl<P: RadioPool> Controller<P> {
     // The candidates are added to the admission set one by one, level by level from 14 down, and in a level by place
     // and RAB ID; the search ends at the first set that gives room.
     pub(super) fn victims(&self, q: &Request) -> Option<Victims>
-        ensures { chosen_of result ≡ front_for q.now (view radio state self.now) }
+        ensures { chosen_of result ≡ front_for q.now (view P.radio P.state self.now) }
     {
         let mut given = own_set(self.rabs.bearer(q.place, q.rab));
         let mut victims = Victims::none();

@@ -33,7 +33,7 @@ fn state_of(bearer: Option<Bearer>, request: Option<Request>) -> RabState
 impl<P: RadioPool> Controller<P> {
     // The state of a RAB, refused at a place over 15 or closed.
     pub fn rab(&self, place: u8, rab: u8) -> Result<RabState, Refusal>
-        ensures { result ≡ question place rab (view radio state self.now) }
+        ensures { result ≡ question place rab (view P.radio P.state self.now) }
     {
         if self.is_bad_place(place) {
             return Err(at_place(Reason::BadPlace, place));
@@ -43,49 +43,49 @@ impl<P: RadioPool> Controller<P> {
 
     // What stands at a place; over 15 it is closed.
     pub fn connection(&self, place: u8) -> Connection
-        ensures { result ≡ at_place place (view radio state self.now) }
+        ensures { result ≡ at_place place (view P.radio P.state self.now) }
     {
         self.connections.at(place)
     }
 
     // What is kept of the ticket of a number, if it is out; over 15 there is none.
     pub fn ticket(&self, number: u8) -> Option<TicketRecord>
-        ensures { result ≡ ticket_at number (view radio state self.now) }
+        ensures { result ≡ ticket_at number (view P.radio P.state self.now) }
     {
         self.tickets.at(number)
     }
 
     // The set-up RABs, by place and RAB ID.
     pub fn bearers(&self) -> &[Bearer]
-        ensures { result.now ≡ (view radio state self.now).bearers }
+        ensures { result.now ≡ (view P.radio P.state self.now).bearers }
     {
         self.rabs.bearers()
     }
 
     // The waiting requests, by arrival.
     pub fn queue(&self) -> &[Request]
-        ensures { result.now ≡ (view radio state self.now).queue }
+        ensures { result.now ≡ (view P.radio P.state self.now).queue }
     {
         self.rabs.queue()
     }
 
     // The radio pool as it stands.
     pub fn pool(&self) -> &P
-        ensures { state result.now ≡ (view radio state self.now).pool }
+        ensures { P.state result.now ≡ (view P.radio P.state self.now).pool }
     {
         &self.pool
     }
 
     // The size of a grant, or 0 where it is not held.
     pub fn held(&self, grant: u8) -> u8
-        ensures { result ≡ radio.holds (view radio state self.now).pool grant }
+        ensures { result ≡ P.radio.holds (view P.radio P.state self.now).pool grant }
     {
         self.pool.held(grant)
     }
 
     // Whether a size is admitted with the grants of a set given back.
     pub fn room(&self, given: &GrantSet, size: u8) -> bool
-        ensures { result ≡ radio.admits (view radio state self.now).pool (member given.now) size }
+        ensures { result ≡ P.radio.admits (view P.radio P.state self.now).pool (member given.now) size }
     {
         self.pool.room(given, size)
     }

@@ -14,14 +14,14 @@ use rules::report::Report;
 impl<P: RadioPool> Controller<P> {
     // Whether a request of this level would be admitted.
     fn is_due(&self, q: &Request, level: u8) -> bool
-        ensures { result ≡ due (view radio state self.now) level q.now }
+        ensures { result ≡ due (view P.radio P.state self.now) level q.now }
     {
         q.priority.level == level && self.is_admitted(q)
     }
 
     // The first waiting request, by level, then arrival, that would be admitted.
     fn next_admitted(&self) -> Option<Request>
-        ensures { result ≡ next (view radio state self.now) }
+        ensures { result ≡ next (view P.radio P.state self.now) }
     {
         let mut found = None;
         'levels: for level in 1..=15u8 {
@@ -37,8 +37,8 @@ impl<P: RadioPool> Controller<P> {
 
     // A waiting request is done.
     fn serve_one(&mut self, q: &Request, reports: &mut [Report], n: usize) -> usize
-        requires { next (view radio state self.old) ≡ Some q.now }
-        ensures { Gave (serve_one q.now (view radio state self.old)) (view radio state self.new) (page reports.old n) (page reports.new result) }
+        requires { next (view P.radio P.state self.old) ≡ Some q.now }
+        ensures { Gave (serve_one q.now (view P.radio P.state self.old)) (view P.radio P.state self.new) (page reports.old n) (page reports.new result) }
     {
         self.rabs.remove_request(q.place, q.rab);
         self.carry_out(q, &[], reports, n)
@@ -47,7 +47,7 @@ impl<P: RadioPool> Controller<P> {
     // The first that would be admitted is done; then the search begins again, until none would be.
     // At most 64 requests wait, so that many turns are enough.
     pub(super) fn serve(&mut self, reports: &mut [Report], n: usize) -> usize
-        ensures { Gave (serve (view radio state self.old)) (view radio state self.new) (page reports.old n) (page reports.new result) }
+        ensures { Gave (serve (view P.radio P.state self.old)) (view P.radio P.state self.new) (page reports.old n) (page reports.new result) }
     {
         let mut at = n;
         for turn in 0..64u8 {

@@ -13,7 +13,7 @@ use rules::report::{Cause, Report, ReportKind};
 impl<P: RadioPool> Controller<P> {
     // A RAB that is not set up: released if it waited, else unknown.
     fn release_unset(&mut self, place: u8, rab: u8, reports: &mut [Report], n: usize) -> usize
-        ensures { Gave (release_unset (waits_as place rab (view radio state self.old).queue) place rab (view radio state self.old)) (view radio state self.new) (page reports.old n) (page reports.new result) }
+        ensures { Gave (release_unset (waits_as place rab (view P.radio P.state self.old).queue) place rab (view P.radio P.state self.old)) (view P.radio P.state self.new) (page reports.old n) (page reports.new result) }
     {
         match self.rabs.request(place, rab) {
             None => put(
@@ -46,7 +46,7 @@ impl<P: RadioPool> Controller<P> {
 
     // A waiting request is superseded, a grant is given back: kind 4 for a known RAB, kind 5 for an unknown one.
     pub(super) fn release(&mut self, place: u8, rab: u8, reports: &mut [Report], n: usize) -> usize
-        ensures { Gave (release place rab (view radio state self.old)) (view radio state self.new) (page reports.old n) (page reports.new result) }
+        ensures { Gave (release place rab (view P.radio P.state self.old)) (view P.radio P.state self.new) (page reports.old n) (page reports.new result) }
     {
         match self.rabs.bearer(place, rab) {
             None => self.release_unset(place, rab, reports, n),

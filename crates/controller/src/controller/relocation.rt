@@ -16,7 +16,7 @@ use rules::report::{Cause, Report};
 impl<P: RadioPool> Controller<P> {
     // The UE's relocation has ended: its connections are open, its ticket still out.
     fn end_relocation(&mut self, ue: u32)
-        ensures { view radio state self.new ≡ ended ue (view radio state self.old) }
+        ensures { view P.radio P.state self.new ≡ ended ue (view P.radio P.state self.old) }
     {
         self.connections.change(ue, Change::Reopen);
         self.tickets.stop(ue);
@@ -24,7 +24,7 @@ impl<P: RadioPool> Controller<P> {
 
     // A failure ends the relocation, with kind 9, cause 5, on the ticket's other connection.
     pub(super) fn failure(&mut self, place: u8, reports: &mut [Report], n: usize) -> usize
-        ensures { Gave (failure place (view radio state self.old)) (view radio state self.new) (page reports.old n) (page reports.new result) }
+        ensures { Gave (failure place (view P.radio P.state self.old)) (view P.radio P.state self.new) (page reports.old n) (page reports.new result) }
     {
         let ue = self.connections.at(place).ue;
         let what = Notice::CallOff(Cause::RelocationCancelled);
@@ -41,7 +41,7 @@ impl<P: RadioPool> Controller<P> {
         reports: &mut [Report],
         n: usize,
     ) -> usize
-        ensures { Gave (cancel_all cause ue (view radio state self.old)) (view radio state self.new) (page reports.old n) (page reports.new result) }
+        ensures { Gave (cancel_all cause ue (view P.radio P.state self.old)) (view P.radio P.state self.new) (page reports.old n) (page reports.new result) }
     {
         let at = self.notify_on(ue, None, Notice::CallOff(cause), reports, n);
         self.end_relocation(ue);
@@ -55,7 +55,7 @@ impl<P: RadioPool> Controller<P> {
         reports: &mut [Report],
         n: usize,
     ) -> usize
-        ensures { Gave (preparation_expires place (view radio state self.old)) (view radio state self.new) (page reports.old n) (page reports.new result) }
+        ensures { Gave (preparation_expires place (view P.radio P.state self.old)) (view P.radio P.state self.new) (page reports.old n) (page reports.new result) }
     {
         let ue = self.connections.at(place).ue;
         self.cancel_all(Cause::TrelocprepExpiry, ue, reports, n)
@@ -63,7 +63,7 @@ impl<P: RadioPool> Controller<P> {
 
     // A RELOCATION COMMAND makes a connection prepared.
     pub(super) fn command(&mut self, place: u8)
-        ensures { view radio state self.new ≡ (commanded place (view radio state self.old)).state }
+        ensures { view P.radio P.state self.new ≡ (commanded place (view P.radio P.state self.old)).state }
     {
         let c = self.connections.at(place);
         self.connections.put(
@@ -78,7 +78,7 @@ impl<P: RadioPool> Controller<P> {
 
     // A running relocation ends as by a failure.
     pub(super) fn end_if_running(&mut self, place: u8, reports: &mut [Report], n: usize) -> usize
-        ensures { Gave (end_if_running place (view radio state self.old)) (view radio state self.new) (page reports.old n) (page reports.new result) }
+        ensures { Gave (end_if_running place (view P.radio P.state self.old)) (view P.radio P.state self.new) (page reports.old n) (page reports.new result) }
     {
         match self.connections.at(place).state {
             ConnectionState::Preparing | ConnectionState::Prepared => {

@@ -16,7 +16,7 @@ use rules::report::{Cause, Report, ReportKind};
 impl<P: RadioPool> Controller<P> {
     // A RAB is pre-empted: a modification waiting on it first fails, then its release is requested.
     fn pre_empt(&mut self, b: &Bearer, reports: &mut [Report], n: usize) -> usize
-        ensures { Gave (pre_empt b.now (view radio state self.old)) (view radio state self.new) (page reports.old n) (page reports.new result) }
+        ensures { Gave (pre_empt b.now (view P.radio P.state self.old)) (view P.radio P.state self.new) (page reports.old n) (page reports.new result) }
     {
         let at = self.fail_waiting(Cause::RabPreempted, b.place, b.rab, reports, n);
         self.drop_bearer(
@@ -30,7 +30,7 @@ impl<P: RadioPool> Controller<P> {
 
     // Each victim in its order.
     fn pre_empt_all(&mut self, victims: &[Bearer], reports: &mut [Report], n: usize) -> usize
-        ensures { Gave (each pre_empt victims.now (view radio state self.old)) (view radio state self.new) (page reports.old n) (page reports.new result) }
+        ensures { Gave (each pre_empt victims.now (view P.radio P.state self.old)) (view P.radio P.state self.new) (page reports.old n) (page reports.new result) }
     {
         let mut at = n;
         for b in victims {
@@ -41,7 +41,7 @@ impl<P: RadioPool> Controller<P> {
 
     // A modification's own grant is given back.
     fn free_own(&mut self, own: Option<Bearer>)
-        ensures { view radio state self.new ≡ free_own own (view radio state self.old) }
+        ensures { view P.radio P.state self.new ≡ free_own own (view P.radio P.state self.old) }
     {
         if let Some(b) = own {
             self.free_bearer(&b);
@@ -56,8 +56,8 @@ impl<P: RadioPool> Controller<P> {
         reports: &mut [Report],
         n: usize,
     ) -> usize
-        requires { Waitable q.now (view radio state self.old) }
-        ensures { Gave (done q.now victims.now (view radio state self.old)) (view radio state self.new) (page reports.old n) (page reports.new result) }
+        requires { Waitable q.now (view P.radio P.state self.old) }
+        ensures { Gave (done q.now victims.now (view P.radio P.state self.old)) (view P.radio P.state self.new) (page reports.old n) (page reports.new result) }
     {
         let own = self.rabs.bearer(q.place, q.rab);
         self.free_own(own);
@@ -67,8 +67,8 @@ impl<P: RadioPool> Controller<P> {
 
     // Without room a request waits if it may, else it fails with cause 6.
     fn wait_or_fail(&mut self, q: &Request, reports: &mut [Report], n: usize) -> usize
-        requires { Waitable q.now (view radio state self.old) }
-        ensures { Gave (wait_or_fail q.now (view radio state self.old)) (view radio state self.new) (page reports.old n) (page reports.new result) }
+        requires { Waitable q.now (view P.radio P.state self.old) }
+        ensures { Gave (wait_or_fail q.now (view P.radio P.state self.old)) (view P.radio P.state self.new) (page reports.old n) (page reports.new result) }
     {
         if q.priority.queuing {
             return self.enqueue(q, reports, n);
@@ -88,8 +88,8 @@ impl<P: RadioPool> Controller<P> {
 
     // A request for a size: done where there is room, at once or by pre-emption.
     pub(super) fn ask(&mut self, q: &Request, reports: &mut [Report], n: usize) -> usize
-        requires { Waitable q.now (view radio state self.old) }
-        ensures { Gave (ask q.now (view radio state self.old)) (view radio state self.new) (page reports.old n) (page reports.new result) }
+        requires { Waitable q.now (view P.radio P.state self.old) }
+        ensures { Gave (ask q.now (view P.radio P.state self.old)) (view P.radio P.state self.new) (page reports.old n) (page reports.new result) }
     {
         if self.is_admitted(q) {
             return self.carry_out(q, &[], reports, n);

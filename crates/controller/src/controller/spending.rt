@@ -31,14 +31,14 @@ fn is_running(ticket: Option<TicketRecord>) -> bool
 impl<P: RadioPool> Controller<P> {
     // Another controller's ticket, or one that is not out.
     fn is_foreign(&self, ticket: TicketId) -> bool
-        ensures { result ≡ foreign ticket (view radio state self.now) }
+        ensures { result ≡ foreign ticket (view P.radio P.state self.now) }
     {
         ticket.controller != self.number || !self.tickets.is_out(ticket.number)
     }
 
     // Whether the ticket's relocation runs and each of its connections is prepared.
     fn is_ready(&self, ticket: Option<TicketRecord>) -> bool
-        ensures { result ≡ ready ticket (view radio state self.now) }
+        ensures { result ≡ ready ticket (view P.radio P.state self.now) }
     {
         match ticket {
             None => false,
@@ -48,7 +48,7 @@ impl<P: RadioPool> Controller<P> {
 
     // The first reason against an execution.
     fn execute_refusal(&self, ticket: TicketId) -> Option<Refusal>
-        ensures { result ≡ execute_refusal ticket (view radio state self.now) }
+        ensures { result ≡ execute_refusal ticket (view P.radio P.state self.now) }
     {
         if self.is_foreign(ticket) {
             return Some(at_place(Reason::ForeignTicket, 0));
@@ -61,7 +61,7 @@ impl<P: RadioPool> Controller<P> {
 
     // The ticket's connections are executed.
     fn execute_of(&mut self, ticket: Option<TicketRecord>)
-        ensures { view radio state self.new ≡ execute_of ticket (view radio state self.old) }
+        ensures { view P.radio P.state self.new ≡ execute_of ticket (view P.radio P.state self.old) }
     {
         if let Some(t) = ticket {
             self.connections.change(t.ue, Change::Execute);
@@ -70,15 +70,15 @@ impl<P: RadioPool> Controller<P> {
 
     // The ticket's number is free again.
     fn give_back(&mut self, number: u8)
-        ensures { view radio state self.new ≡ give_back number (view radio state self.old) }
+        ensures { view P.radio P.state self.new ≡ give_back number (view P.radio P.state self.old) }
     {
         self.tickets.put(number, None);
     }
 
     // A relocation is executed. It reports nothing; a refusal hands the ticket back.
     pub fn execute(&mut self, ticket: Ticket) -> Result<(), (Ticket, Refusal)>
-        ensures answer { result ≡ handing_back ticket (execute_answer (id_of ticket) (view radio state self.old)) }
-        ensures state { view radio state self.new ≡ (execute_outcome (id_of ticket) (view radio state self.old)).state }
+        ensures answer { result ≡ handing_back ticket (execute_answer (id_of ticket) (view P.radio P.state self.old)) }
+        ensures state { view P.radio P.state self.new ≡ (execute_outcome (id_of ticket) (view P.radio P.state self.old)).state }
     {
         let id = ticket.id();
         if let Some(refusal) = self.execute_refusal(id) {
@@ -93,7 +93,7 @@ impl<P: RadioPool> Controller<P> {
 
     // The first reason against a withdrawal.
     fn withdraw_refusal(&self, places: usize, ticket: TicketId) -> Option<Refusal>
-        ensures { result ≡ withdraw_refusal places ticket (view radio state self.now) }
+        ensures { result ≡ withdraw_refusal places ticket (view P.radio P.state self.now) }
     {
         if places < 288 {
             return Some(short_list());
@@ -106,7 +106,7 @@ impl<P: RadioPool> Controller<P> {
 
     // What runs is called off: kind 9 with cause 5.
     fn call_off(&mut self, ticket: Option<TicketRecord>, reports: &mut [Report]) -> usize
-        ensures { Gave (withdraw_of ticket (view radio state self.old)) (view radio state self.new) (page reports.old 0) (page reports.new result) }
+        ensures { Gave (withdraw_of ticket (view P.radio P.state self.old)) (view P.radio P.state self.new) (page reports.old 0) (page reports.new result) }
     {
         match ticket {
             Some(t) if t.running => {
@@ -118,7 +118,7 @@ impl<P: RadioPool> Controller<P> {
 
     // The relocation of a ticket's number is withdrawn, and the number is free again.
     fn withdraw_number(&mut self, number: u8, reports: &mut [Report]) -> usize
-        ensures { Gave (withdraw number (view radio state self.old)) (view radio state self.new) (page reports.old 0) (page reports.new result) }
+        ensures { Gave (withdraw number (view P.radio P.state self.old)) (view P.radio P.state self.new) (page reports.old 0) (page reports.new result) }
     {
         let kept = self.tickets.at(number);
         let at = self.call_off(kept, reports);
@@ -133,9 +133,9 @@ impl<P: RadioPool> Controller<P> {
         ticket: Ticket,
         reports: &mut [Report],
     ) -> Result<(bool, usize), (Ticket, Refusal)>
-        ensures answer { result ≡ handing_back ticket (withdraw_answer (length reports.old) (id_of ticket) (view radio state self.old)) }
-        ensures state { view radio state self.new ≡ (withdraw_outcome (length reports.old) (id_of ticket) (view radio state self.old)).state }
-        ensures list { reports.new ≡ listed (withdraw_outcome (length reports.old) (id_of ticket) (view radio state self.old)).reports reports.old }
+        ensures answer { result ≡ handing_back ticket (withdraw_answer (length reports.old) (id_of ticket) (view P.radio P.state self.old)) }
+        ensures state { view P.radio P.state self.new ≡ (withdraw_outcome (length reports.old) (id_of ticket) (view P.radio P.state self.old)).state }
+        ensures list { reports.new ≡ listed (withdraw_outcome (length reports.old) (id_of ticket) (view P.radio P.state self.old)).reports reports.old }
     {
         let id = ticket.id();
         if let Some(refusal) = self.withdraw_refusal(reports.len(), id) {

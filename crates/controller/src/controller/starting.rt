@@ -24,7 +24,7 @@ use rules::report::{Cause, Report};
 impl<P: RadioPool> Controller<P> {
     // The first reason against a start.
     fn start_refusal(&self, places: usize, ue: u32) -> Option<Refusal>
-        ensures { result ≡ start_refusal places ue (view radio state self.now) }
+        ensures { result ≡ start_refusal places ue (view P.radio P.state self.now) }
     {
         if places < 288 {
             return Some(short_list());
@@ -46,7 +46,7 @@ impl<P: RadioPool> Controller<P> {
 
     // The UE's connections are preparing, and its ticket is out under the smallest number.
     fn run_relocation(&mut self, ue: u32)
-        ensures { view radio state self.new ≡ relocation_runs ue (view radio state self.old) }
+        ensures { view P.radio P.state self.new ≡ relocation_runs ue (view P.radio P.state self.old) }
     {
         let number = self.tickets.free();
         self.connections.change(ue, Change::Prepare);
@@ -56,7 +56,7 @@ impl<P: RadioPool> Controller<P> {
 
     // Kind 8 on each of the UE's connections by place, and its relocation runs.
     fn require_on(&mut self, ue: u32, reports: &mut [Report], n: usize) -> usize
-        ensures { Gave (required_on ue (view radio state self.old)) (view radio state self.new) (page reports.old n) (page reports.new result) }
+        ensures { Gave (required_on ue (view P.radio P.state self.old)) (view P.radio P.state self.new) (page reports.old n) (page reports.new result) }
     {
         let at = self.notify_on(ue, None, Notice::Require, reports, n);
         self.run_relocation(ue);
@@ -65,7 +65,7 @@ impl<P: RadioPool> Controller<P> {
 
     // The requests that wait on the UE's connections fail with cause 3 first.
     fn begin(&mut self, ue: u32, reports: &mut [Report]) -> usize
-        ensures { Gave (start ue (view radio state self.old)) (view radio state self.new) (page reports.old 0) (page reports.new result) }
+        ensures { Gave (start ue (view P.radio P.state self.old)) (view P.radio P.state self.new) (page reports.old 0) (page reports.new result) }
     {
         let at = self.fail_all(Cause::RelocationTriggered, Whose::OfUe(ue), reports, 0);
         self.require_on(ue, reports, at)
@@ -73,7 +73,7 @@ impl<P: RadioPool> Controller<P> {
 
     // The ticket that the next start hands out.
     fn next_ticket(&self) -> Ticket
-        ensures { id_of result ≡ next_ticket (view radio state self.now) }
+        ensures { id_of result ≡ next_ticket (view P.radio P.state self.now) }
     {
         Ticket::new(self.number, self.tickets.free())
     }
@@ -81,9 +81,9 @@ impl<P: RadioPool> Controller<P> {
     // A UE's relocation starts. The ticket of it is answered, and the count of reports: they stand
     // in the first places of the list, and the others hold what they held.
     pub fn start(&mut self, ue: u32, reports: &mut [Report]) -> Result<(Ticket, usize), Refusal>
-        ensures answer { by_id result ≡ start_answer (length reports.old) ue (view radio state self.old) }
-        ensures state { view radio state self.new ≡ (start_outcome (length reports.old) ue (view radio state self.old)).state }
-        ensures list { reports.new ≡ listed (start_outcome (length reports.old) ue (view radio state self.old)).reports reports.old }
+        ensures answer { by_id result ≡ start_answer (length reports.old) ue (view P.radio P.state self.old) }
+        ensures state { view P.radio P.state self.new ≡ (start_outcome (length reports.old) ue (view P.radio P.state self.old)).state }
+        ensures list { reports.new ≡ listed (start_outcome (length reports.old) ue (view P.radio P.state self.old)).reports reports.old }
     {
         if let Some(refusal) = self.start_refusal(reports.len(), ue) {
             return Err(refusal);

@@ -20,13 +20,13 @@ use rules::report::{Cause, Report};
 impl<P: RadioPool> Controller<P> {
     // A place over 15, or closed.
     pub(super) fn is_bad_place(&self, place: u8) -> bool
-        ensures { result ≡ bad_place place (view radio state self.now) }
+        ensures { result ≡ bad_place place (view P.radio P.state self.now) }
     {
         15 < place || matches!(self.connections.at(place).state, ConnectionState::Closed)
     }
 
     fn is_queuing(&self, place: u8) -> bool
-        ensures { result ≡ queuing_runs place (view radio state self.now) }
+        ensures { result ≡ queuing_runs place (view P.radio P.state self.now) }
     {
         match self.rabs.request_at(place) {
             Some(_) => true,
@@ -35,14 +35,14 @@ impl<P: RadioPool> Controller<P> {
     }
 
     pub(super) fn is_preparing(&self, place: u8) -> bool
-        ensures { result ≡ preparation_runs place (view radio state self.now) }
+        ensures { result ≡ preparation_runs place (view P.radio P.state self.now) }
     {
         matches!(self.connections.at(place).state, ConnectionState::Preparing)
     }
 
     // Whether a timer, 1 TQUEUING or 2 TRELOCprep, runs at a place. No other ever does.
     pub fn is_running(&self, place: u8, timer: u8) -> bool
-        ensures { result ≡ timer_runs (timer_of timer) place (view radio state self.now) }
+        ensures { result ≡ timer_runs (timer_of timer) place (view P.radio P.state self.now) }
     {
         match Timer::of(timer) {
             None => false,
@@ -53,7 +53,7 @@ impl<P: RadioPool> Controller<P> {
 
     // The first reason against an expiry, by the state of the place's connection and the timer.
     fn expiry_refusal(&self, places: usize, place: u8, timer: u8) -> Option<Refusal>
-        ensures { result ≡ expiry_refusal places place timer (view radio state self.now) }
+        ensures { result ≡ expiry_refusal places place timer (view P.radio P.state self.now) }
     {
         if places < 288 {
             return Some(short_list());
@@ -86,7 +86,7 @@ impl<P: RadioPool> Controller<P> {
 
     // What a timer that has run out does.
     fn expire(&mut self, place: u8, timer: u8, reports: &mut [Report]) -> usize
-        ensures { Gave (expires (timer_of timer) place (view radio state self.old)) (view radio state self.new) (page reports.old 0) (page reports.new result) }
+        ensures { Gave (expires (timer_of timer) place (view P.radio P.state self.old)) (view P.radio P.state self.new) (page reports.old 0) (page reports.new result) }
     {
         match Timer::of(timer) {
             None => 0,
@@ -103,9 +103,9 @@ impl<P: RadioPool> Controller<P> {
     // A timer, 1 TQUEUING or 2 TRELOCprep, has run out at a place. The count of reports is answered:
     // they stand in the first places of the list, and the others hold what they held.
     pub fn expiry(&mut self, place: u8, timer: u8, reports: &mut [Report]) -> Result<usize, Refusal>
-        ensures answer { result ≡ expiry_answer (length reports.old) place timer (view radio state self.old) }
-        ensures state { view radio state self.new ≡ (expiry_outcome (length reports.old) place timer (view radio state self.old)).state }
-        ensures list { reports.new ≡ listed (expiry_outcome (length reports.old) place timer (view radio state self.old)).reports reports.old }
+        ensures answer { result ≡ expiry_answer (length reports.old) place timer (view P.radio P.state self.old) }
+        ensures state { view P.radio P.state self.new ≡ (expiry_outcome (length reports.old) place timer (view P.radio P.state self.old)).state }
+        ensures list { reports.new ≡ listed (expiry_outcome (length reports.old) place timer (view P.radio P.state self.old)).reports reports.old }
     {
         if let Some(refusal) = self.expiry_refusal(reports.len(), place, timer) {
             return Err(refusal);

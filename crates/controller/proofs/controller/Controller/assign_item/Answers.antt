@@ -5,4 +5,4 @@ use Rattle.rules.specs.Queue.{serve}
 
 pub returns : goal.returns
 unfolding assign_item
-returns g c = gave_then serve c.assign-turn-at.ensures c.serve.ensures
+returns g c = gave_then serve c.assign_turn-at.ensures c.serve.ensures

@@ -9,10 +9,10 @@ use Rattle.rules.specs.State.{each}
 use Rattle.std.proofs.lemmas.List.{at_drop_all}
 use Rattle.std.proofs.Common.{◌+◌, drop, ap}
 
-pub loop-i-preserved-in-default : goal.loop-i-preserved-in-default
-loop-i-preserved-in-default g c =
+pub loop-i-preserved-in_default : goal.loop-i-preserved-in_default
+loop-i-preserved-in_default g c =
     let x = view g.P.RadioPool.radio g.P.RadioPool.state c.loop-i.self in
-    let e = assign_skip c.args.items.now c.loop-i.i blank_item c.loop-i-test.true c.in-default.field-0 c.in-default.is in
+    let e = assign_skip c.args.items.now c.loop-i.i blank_item c.loop-i-test.true c.in_default.field-0 c.in_default.is in
     toward_as (ap (λ rs. each (assign_item c.args.place) rs x) e) c.loop-i.invariant
 
 pub loop-i-preserved : goal.loop-i-preserved
@@ -22,7 +22,7 @@ loop-i-preserved g c =
     let i = c.loop-i.i in
     let e = assign_next is i blank_item c.loop-i-test.true c.in-Assign.a c.in-Assign.is in
     toward_then {o = assign_item c.args.place c.in-Assign.a x} (each (assign_item c.args.place) (assignments (drop (i + 1) is)))
-    (toward_as (ap (λ rs. each (assign_item c.args.place) rs x) e) c.loop-i.invariant) c.assign-item-at.ensures
+    (toward_as (ap (λ rs. each (assign_item c.args.place) rs x) e) c.loop-i.invariant) c.assign_item-at.ensures
 
 pub returns : goal.returns
 returns g c =

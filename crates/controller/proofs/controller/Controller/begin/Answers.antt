@@ -5,4 +5,4 @@ use Rattle.rules.specs.Relocation.{start}
 
 pub returns : goal.returns
 unfolding start
-returns g c = gave_then (required_on c.args.ue) c.fail-all-at.ensures c.require-on.ensures
+returns g c = gave_then (required_on c.args.ue) c.fail_all-at.ensures c.require_on.ensures

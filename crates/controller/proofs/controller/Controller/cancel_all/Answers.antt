@@ -11,6 +11,6 @@ returns g c =
     let x = view g.P.RadioPool.radio g.P.RadioPool.state c.args.self.now in
     let before = page c.args.reports.now c.args.n in
     record {
-      state = c.end-relocation.ensures;
-      page = c.notify-on-at.ensures ∙ ap (λ ps. write_all (map (cancel c.args.cause) ps) before) (none_spared (places_of c.args.ue x));
+      state = c.end_relocation.ensures;
+      page = c.notify_on-at.ensures ∙ ap (λ ps. write_all (map (cancel c.args.cause) ps) before) (none_spared (places_of c.args.ue x));
     }

@@ -17,8 +17,8 @@ establish-requires g c =
     let x = view m s c.args.self.now in
     let q = c.args.q.now in
     let t = c.args.self.now.rabs in
-    let freed = c.free-own.ensures ∙ ap (λ o. free_own o x) c.bearer-own.ensures.answer in
-    let after = c.pre-empt-all-at.ensures.state ∙ ap (λ y. (each pre_empt c.args.victims.now y).state) freed in
+    let freed = c.free_own.ensures ∙ ap (λ o. free_own o x) c.bearer-own.ensures.answer in
+    let after = c.pre_empt_all-at.ensures.state ∙ ap (λ y. (each pre_empt c.args.victims.now y).state) freed in
     subst (Ready q) (sym after) (ready_after q c.args.victims.now x (record { sorted = t.sorted; single = t.single; few = t.few; ranges = t.ranges }) c.requires)
 
 pub returns : goal.returns
@@ -27,6 +27,6 @@ returns g c =
     let m = g.P.RadioPool.radio in
     let s = g.P.RadioPool.state in
     let x = view m s c.args.self.now in
-    let freed = c.free-own.ensures ∙ ap (λ o. free_own o x) c.bearer-own.ensures.answer in
-    let first = subst (λ y. Gave (each pre_empt c.args.victims.now y) (view m s c.pre-empt-all-at.new.self) (page c.args.reports.now c.args.n) (page c.pre-empt-all-at.new.reports c.pre-empt-all-at.result)) freed c.pre-empt-all-at.ensures in
+    let freed = c.free_own.ensures ∙ ap (λ o. free_own o x) c.bearer-own.ensures.answer in
+    let first = subst (λ y. Gave (each pre_empt c.args.victims.now y) (view m s c.pre_empt_all-at.new.self) (page c.args.reports.now c.args.n) (page c.pre_empt_all-at.new.reports c.pre_empt_all-at.result)) freed c.pre_empt_all-at.ensures in
     gave_then (establish c.args.q.now) first c.establish.ensures

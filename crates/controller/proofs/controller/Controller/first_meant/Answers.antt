@@ -5,14 +5,14 @@ use Rattle.controller.proofs.controller.Controller.first_meant.Goals as goal
 use Rattle.controller.specs.View.{view}
 use Rattle.controller.specs.Whose.{meant}
 
-pub returns-then-is-meant : goal.returns-then-is-meant
-returns-then-is-meant g c =
+pub returns-then-is_meant : goal.returns-then-is_meant
+returns-then-is_meant g c =
     let x = view g.P.RadioPool.radio g.P.RadioPool.state c.args.self.now in
     let w = c.args.whose in
     let i = c.loop-q.q-index in
     let it = c.queue-q-items.ensures.answer in
     let l : i < length x.queue = subst (λ xs. i < length xs) it c.loop-q-test.true in
-    let on : meant w x (get_or x.queue i blank_request) ≡ true = sym (c.if-is-meant.ensures ∙ ap (λ xs. meant w x (get_or xs i blank_request)) it) in
+    let on : meant w x (get_or x.queue i blank_request) ≡ true = sym (c.if-is_meant.ensures ∙ ap (λ xs. meant w x (get_or xs i blank_request)) it) in
     ap (λ xs. Some (get_or xs i blank_request)) it ∙ sym (of_here (meant w x) x.queue i blank_request l on) ∙ c.loop-q.invariant
 
 pub loop-q-preserved : goal.loop-q-preserved
@@ -22,7 +22,7 @@ loop-q-preserved g c =
     let i = c.loop-q.q-index in
     let it = c.queue-q-items.ensures.answer in
     let l : i < length x.queue = subst (λ xs. i < length xs) it c.loop-q-test.true in
-    let off : meant w x (get_or x.queue i blank_request) ≡ false = sym (c.if-is-meant.ensures ∙ ap (λ xs. meant w x (get_or xs i blank_request)) it) in
+    let off : meant w x (get_or x.queue i blank_request) ≡ false = sym (c.if-is_meant.ensures ∙ ap (λ xs. meant w x (get_or xs i blank_request)) it) in
     sym (of_more (meant w x) x.queue i blank_request l off) ∙ c.loop-q.invariant
 
 pub returns : goal.returns

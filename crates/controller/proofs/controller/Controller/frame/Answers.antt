@@ -15,10 +15,10 @@ returns g c =
     let x = view m s c.args.self.now in
     let l = c.args.reports.now in
     let bs = c.args.bytes.now in
-    let h = saying c.in-ok-message.message in
-    let is = c.in-ok-message.ensures.answer in
+    let h = saying c.in_ok-message.message in
+    let is = c.in_ok-message.ensures.answer in
     let few = handled_few x (small m s c.args.self.now) h (received_few bs h (sym is)) in
     let long : 288 ≤ length l = omega (arith, c.if-reports-lt288.false) in
     let fits : length (handled h x).reports ≤ length l = omega (arith, long, few) in
-    let done = frame_answers (received bs) h is long (sym c.in-default.ensures) (obeyed fits c.handle.ensures) in
+    let done = frame_answers (received bs) h is long (sym c.in_default.ensures) (obeyed fits c.handle.ensures) in
     record { answer = done.answer; state = done.state; list = done.list }

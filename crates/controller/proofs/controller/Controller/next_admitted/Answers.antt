@@ -22,7 +22,7 @@ waiting-preserved g c =
     let i = c.waiting.q-index in
     let it = c.queue-q-items.ensures.answer in
     let h : i < length x.queue = subst (λ xs. i < length xs) it c.waiting-test.true in
-    let off : due x l (get_or x.queue i blank_request) ≡ false = sym (c.if-is-due.ensures ∙ ap (λ xs. due x l (get_or xs i blank_request)) it) in
+    let off : due x l (get_or x.queue i blank_request) ≡ false = sym (c.if-is_due.ensures ∙ ap (λ xs. due x l (get_or xs i blank_request)) it) in
     (c.waiting.invariant.0, ap (λ o. or_else o (by_level x x.queue (l + 1) (15 - l))) (sym (due_more x l x.queue i blank_request h off)) ∙ c.waiting.invariant.1)
 
 pub levels-preserved : goal.levels-preserved
@@ -43,14 +43,14 @@ returns-after-levels g c =
     let good = (and_parts (bearers_good x.bearers) (requests_good x.queue) c.args.self.now.rabs.ranges).1 in
     c.levels.invariant.0 ∙ sym (ap (by_level x x.queue l) e ∙ level_none x x.queue l) ∙ c.levels.invariant.1 ∙ next_found x good
 
-pub returns-then-is-due : goal.returns-then-is-due
-returns-then-is-due g c =
+pub returns-then-is_due : goal.returns-then-is_due
+returns-then-is_due g c =
     let x = view g.P.RadioPool.radio g.P.RadioPool.state c.args.self.now in
     let l = c.levels.level in
     let i = c.waiting.q-index in
     let it = c.queue-q-items.ensures.answer in
     let h : i < length x.queue = subst (λ xs. i < length xs) it c.waiting-test.true in
-    let on : due x l (get_or x.queue i blank_request) ≡ true = sym (c.if-is-due.ensures ∙ ap (λ xs. due x l (get_or xs i blank_request)) it) in
+    let on : due x l (get_or x.queue i blank_request) ≡ true = sym (c.if-is_due.ensures ∙ ap (λ xs. due x l (get_or xs i blank_request)) it) in
     let good = (and_parts (bearers_good x.bearers) (requests_good x.queue) c.args.self.now.rabs.ranges).1 in
     ap (λ xs. Some (get_or xs i blank_request)) it ∙
     ap (λ o. or_else o (by_level x x.queue (l + 1) (15 - l))) (sym (due_here x l x.queue i blank_request h on)) ∙ c.waiting.invariant.1 ∙ next_found x good

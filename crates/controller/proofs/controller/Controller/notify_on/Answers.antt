@@ -14,7 +14,7 @@ loop-place-preserved g c =
     let l : i < length cs = omega (arith, c.loop-place-test.true, c.args.self.now.connections.wide) in
     let here = cond (told c.args.except c.args.ue i (get_or cs i vacant)) (notice c.args.what i ∷ []) [] in
     let rest = notices_from c.args.what c.args.except c.args.ue (i + 1) (drop (i + 1) cs) in
-    ap (write_all rest) c.notify-at-at.ensures ∙ sym (write_append here rest (page c.loop-place.reports c.loop-place.at)) ∙
+    ap (write_all rest) c.notify_at-at.ensures ∙ sym (write_append here rest (page c.loop-place.reports c.loop-place.at)) ∙
     ap (λ rs. write_all rs (page c.loop-place.reports c.loop-place.at)) (sym (notices_next c.args.what c.args.except c.args.ue cs i l)) ∙ c.loop-place.invariant
 
 pub returns : goal.returns

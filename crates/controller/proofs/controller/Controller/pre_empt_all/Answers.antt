@@ -7,7 +7,7 @@ use Rattle.rules.specs.Request.{pre_empt}
 pub loop-b-preserved : goal.loop-b-preserved
 loop-b-preserved g c =
     let x = view g.P.RadioPool.radio g.P.RadioPool.state c.loop-b.self in
-    toward_each pre_empt c.args.victims.now c.loop-b.b-index blank_bearer x c.loop-b-test.true c.loop-b.invariant c.pre-empt-at.ensures
+    toward_each pre_empt c.args.victims.now c.loop-b.b-index blank_bearer x c.loop-b-test.true c.loop-b.invariant c.pre_empt-at.ensures
 
 pub returns : goal.returns
 returns g c =

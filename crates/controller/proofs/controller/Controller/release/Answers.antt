@@ -11,11 +11,11 @@ pub returns-in-None : goal.returns-in-None
 unfolding release
 returns-in-None g c =
     let x = view g.P.RadioPool.radio g.P.RadioPool.state c.args.self.now in
-    gave_as (ap (λ o. release_known o c.args.place c.args.rab x) c.in-None.ensures.answer) c.release-unset.ensures
+    gave_as (ap (λ o. release_known o c.args.place c.args.rab x) c.in-None.ensures.answer) c.release_unset.ensures
 
 pub returns-in-Some : goal.returns-in-Some
 unfolding release
 returns-in-Some g c =
     let x = view g.P.RadioPool.radio g.P.RadioPool.state c.args.self.now in
     gave_as (ap (λ o. release_known o c.args.place c.args.rab x) c.in-Some.ensures.answer)
-    (gave_then (drop_bearer kind.Released cause.NoCause c.in-Some.b) c.fail-waiting-at.ensures c.drop-bearer.ensures)
+    (gave_then (drop_bearer kind.Released cause.NoCause c.in-Some.b) c.fail_waiting-at.ensures c.drop_bearer.ensures)

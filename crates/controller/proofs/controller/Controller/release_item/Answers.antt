@@ -5,4 +5,4 @@ use Rattle.rules.specs.Queue.{serve}
 
 pub returns : goal.returns
 unfolding release_item
-returns g c = gave_then serve c.release-turn-at.ensures c.serve.ensures
+returns g c = gave_then serve c.release_turn-at.ensures c.serve.ensures

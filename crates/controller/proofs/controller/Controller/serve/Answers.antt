@@ -22,18 +22,18 @@ loop-turn-preserved g c =
     let m = g.P.RadioPool.radio in
     let s = g.P.RadioPool.state in
     let x = view m s c.loop-turn.self in
-    let y = view m s c.serve-one-at.new.self in
+    let y = view m s c.serve_one-at.new.self in
     let e = sym c.in-Some.ensures in
-    let short : length y.queue + 1 ≡ length x.queue = ap (λ w. length w.queue + 1) c.serve-one-at.ensures.state ∙ turn_shorter x c.in-Some.q e in
+    let short : length y.queue + 1 ≡ length x.queue = ap (λ w. length w.queue + 1) c.serve_one-at.ensures.state ∙ turn_shorter x c.in-Some.q e in
     let long : length x.queue ≡ suc (length y.queue) = omega (arith, short) in
     let turn = ap (λ n. serve_up_to n x) long ∙ serve_turn x c.in-Some.q (length y.queue) e in
     let few : length y.queue + (c.loop-turn.turn + 1) ≤ 64 = omega (arith, short, c.loop-turn.invariant.1) in
-    (toward_then (serve_up_to (length y.queue)) (toward_as turn c.loop-turn.invariant.0) c.serve-one-at.ensures, few)
+    (toward_then (serve_up_to (length y.queue)) (toward_as turn c.loop-turn.invariant.0) c.serve_one-at.ensures, few)
 
-pub returns-in-default : goal.returns-in-default
-returns-in-default g c =
+pub returns-in_default : goal.returns-in_default
+returns-in_default g c =
     let x = view g.P.RadioPool.radio g.P.RadioPool.state c.loop-turn.self in
-    toward_end (toward_as (serve_none x (length x.queue) (sym c.in-default.ensures)) c.loop-turn.invariant.0)
+    toward_end (toward_as (serve_none x (length x.queue) (sym c.in_default.ensures)) c.loop-turn.invariant.0)
 
 pub returns : goal.returns
 returns g c =

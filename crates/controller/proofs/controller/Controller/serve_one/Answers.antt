@@ -1,7 +1,7 @@
 use Rattle.controller.proofs.Served.{served_waitable}
 use Rattle.controller.proofs.controller.Controller.serve_one.Given as given
 use Rattle.controller.proofs.controller.Controller.serve_one.Goals as goal
-use Rattle.controller.proofs.controller.Controller.serve_one.Goals.{After-remove-request}
+use Rattle.controller.proofs.controller.Controller.serve_one.Goals.{After-remove_request}
 use Rattle.controller.specs.Gave.{Gave}
 use Rattle.controller.specs.Page.{page}
 use Rattle.controller.specs.Turn.{Waitable}
@@ -11,8 +11,8 @@ use Rattle.rules.specs.State.{State, at_queue}
 use Rattle.rules.specs.Tables.{without_request}
 use Rattle.std.proofs.Common.{◌≡◌, [], sym, subst}
 
-pub carry-out-requires : goal.carry-out-requires
-carry-out-requires g c =
+pub carry_out-requires : goal.carry_out-requires
+carry_out-requires g c =
     let m = g.P.RadioPool.radio in
     let s = g.P.RadioPool.state in
     let x = view m s c.args.self.now in
@@ -20,8 +20,8 @@ carry-out-requires g c =
     let t = c.args.self.now.rabs in
     let w = served_waitable x q (record { sorted = t.sorted; single = t.single; few = t.few; ranges = t.ranges }) c.requires in
     let left : ◌≡◌ {A = State m} (record { number = x.number; connections = x.connections; bearers = x.bearers; queue = without_request q.place q.rab x.queue; tickets = x.tickets; pool = x.pool })
-    (view m s (record { number = c.args.self.now.number; connections = c.args.self.now.connections; rabs = c.remove-request.new.self; tickets = c.args.self.now.tickets; pool = c.args.self.now.pool })) =
-    λ i. record { number = x.number; connections = x.connections; bearers = sym c.remove-request.ensures.bearers i; queue = sym c.remove-request.ensures.queue i; tickets = x.tickets; pool = x.pool }
+    (view m s (record { number = c.args.self.now.number; connections = c.args.self.now.connections; rabs = c.remove_request.new.self; tickets = c.args.self.now.tickets; pool = c.args.self.now.pool })) =
+    λ i. record { number = x.number; connections = x.connections; bearers = sym c.remove_request.ensures.bearers i; queue = sym c.remove_request.ensures.queue i; tickets = x.tickets; pool = x.pool }
     in
     subst (Waitable q) left w
 
@@ -31,8 +31,8 @@ returns g c =
     let s = g.P.RadioPool.state in
     let x = view m s c.args.self.now in
     let q = c.args.q.now in
-    let left : ◌≡◌ {A = State m} (view m s (record { number = c.args.self.now.number; connections = c.args.self.now.connections; rabs = c.remove-request.new.self; tickets = c.args.self.now.tickets; pool = c.args.self.now.pool }))
+    let left : ◌≡◌ {A = State m} (view m s (record { number = c.args.self.now.number; connections = c.args.self.now.connections; rabs = c.remove_request.new.self; tickets = c.args.self.now.tickets; pool = c.args.self.now.pool }))
     (at_queue x (without_request q.place q.rab x.queue)) =
-    λ i. record { number = x.number; connections = x.connections; bearers = c.remove-request.ensures.bearers i; queue = c.remove-request.ensures.queue i; tickets = x.tickets; pool = x.pool }
+    λ i. record { number = x.number; connections = x.connections; bearers = c.remove_request.ensures.bearers i; queue = c.remove_request.ensures.queue i; tickets = x.tickets; pool = x.pool }
     in
-    subst (λ y. Gave (done q [] y) (view m s c.carry-out.new.self) (page c.args.reports.now c.args.n) (page c.carry-out.new.reports c.carry-out.result)) left c.carry-out.ensures
+    subst (λ y. Gave (done q [] y) (view m s c.carry_out.new.self) (page c.args.reports.now c.args.n) (page c.carry_out.new.reports c.carry_out.result)) left c.carry_out.ensures

@@ -14,13 +14,13 @@ returns g c =
     let x = view m s c.args.self.now in
     let l = c.args.reports.now in
     let u = c.args.ue in
-    let none = sym c.in-default.ensures in
+    let none = sym c.in_default.ensures in
     let long = long_list (length l) (start_refusal 288 u x) none in
     let few = start_few x (small m s c.args.self.now) u in
     let fits : length (start u x).reports ≤ length l = omega (arith, long, few) in
     let done = answers (λ k. (next_ticket x, k)) (start_refusal (length l) u x) none (obeyed fits c.begin-count.ensures) in
     record {
-      answer = ap (λ t. Ok (t, c.begin-count.result)) c.next-ticket-ticket.ensures ∙ done.answer;
+      answer = ap (λ t. Ok (t, c.begin-count.result)) c.next_ticket-ticket.ensures ∙ done.answer;
       state = done.state;
       list = done.list;
     }

@@ -7,7 +7,7 @@ use Rattle.bearers.specs.View.{bearers_of}
 use Rattle.controller.proofs.Fronts.{in_front, left, begins, ends, level_left, left_end, passed_by, placed, added_on, room_found}
 use Rattle.controller.proofs.controller.Controller.victims.Given as given
 use Rattle.controller.proofs.controller.Controller.victims.Goals as goal
-use Rattle.controller.proofs.controller.Controller.victims.Goals.{else-levels-test, then-levels-test+then-table-test+else-not-is-candidate+then-room}
+use Rattle.controller.proofs.controller.Controller.victims.Goals.{else-levels-test, then-levels-test+then-table-test+else-not-is_candidate+then-room}
 use Rattle.controller.specs.Chosen.{chosen}
 use Rattle.controller.specs.View.{view}
 use Rattle.rules.specs.Grants.{added}
@@ -30,7 +30,7 @@ more_by cs' cs b b' e l i = i ∙ ap (λ t. cond t (cs ++ b' ∷ []) cs) (lt-ltb
 pub levels-init : goal.levels-init
 levels-init g c =
     let x = view g.P.RadioPool.radio g.P.RadioPool.state c.args.self.now in
-    let b = begins c.args.q.now x (member c.own-set-given.result) (chosen c.none-victims.result) c.none-victims.ensures (c.own-set-given.ensures ∙ ap own_grant c.bearer.ensures.answer) in
+    let b = begins c.args.q.now x (member c.own_set-given.result) (chosen c.none-victims.result) c.none-victims.ensures (c.own_set-given.ensures ∙ ap own_grant c.bearer.ensures.answer) in
     (refl, b.0, b.1)
 
 pub table-init : goal.table-init
@@ -42,15 +42,15 @@ table-init g c =
       ap (λ vs. in_front (chosen c.levels.victims) (shortest_front x (member c.levels.given) c.args.q.now.size vs)) (sym e) ∙ c.levels.invariant.2,
     )
 
-pub table-preserved-then-not-is-candidate : goal.table-preserved-then-not-is-candidate
-table-preserved-then-not-is-candidate g c =
+pub table-preserved-then-not-is_candidate : goal.table-preserved-then-not-is_candidate
+table-preserved-then-not-is_candidate g c =
     let x = view g.P.RadioPool.radio g.P.RadioPool.state c.args.self.now in
     let bs = bearers_of c.args.self.now.rabs in
     let i = c.table.b-index in
     let it = c.bearers-b-items.ensures.answer in
     let l : i < length bs = subst (λ xs. i < length xs) it c.table-test.true in
     let off : candidate c.args.q.now x c.levels.level (get_or bs i blank_bearer) ≡ false =
-    sym (c.if-not-is-candidate.ensures ∙ ap (λ xs. candidate c.args.q.now x c.levels.level (get_or xs i blank_bearer)) it)
+    sym (c.if-not-is_candidate.ensures ∙ ap (λ xs. candidate c.args.q.now x c.levels.level (get_or xs i blank_bearer)) it)
     in
     let p = passed_by c.args.q.now x c.levels.level i bs blank_bearer l (chosen c.table.victims) (member c.table.given) c.table.invariant.1 c.table.invariant.2 off in
     (c.table.invariant.0, p.0, p.1)
@@ -65,7 +65,7 @@ table-preserved g c =
     let l : i < length bs = subst (λ xs. i < length xs) it c.table-test.true in
     let few : length bs ≤ 64 = subst (λ xs. length xs ≤ 64) it c.bearers-b-items.ensures.few in
     let good = ap bearer_good (sym b) ∙ good_at c.bearers-b-items.result.now i blank_bearer c.bearers-b-items.ensures.good c.table-test.true in
-    let on : candidate c.args.q.now x c.levels.level (get_or bs i blank_bearer) ≡ true = sym (c.if-not-is-candidate.ensures ∙ ap (candidate c.args.q.now x c.levels.level) b) in
+    let on : candidate c.args.q.now x c.levels.level (get_or bs i blank_bearer) ≡ true = sym (c.if-not-is_candidate.ensures ∙ ap (candidate c.args.q.now x c.levels.level) b) in
     let room = placed c.args.q.now x c.levels.level i bs blank_bearer l (chosen c.table.victims) (member c.table.given) c.table.invariant.1 c.table.invariant.2 on few in
     let more = more_by (chosen c.choose.new.self) (chosen c.table.victims) (get_or bs i blank_bearer) (get_or c.bearers-b-items.result.now i blank_bearer) b room c.choose.ensures in
     let grown = grown_by (member c.insert.new.self) (member c.table.given) (get_or bs i blank_bearer) (get_or c.bearers-b-items.result.now i blank_bearer) b good c.insert.ensures in
@@ -91,14 +91,14 @@ returns-then-enough g c =
     let bs = bearers_of c.args.self.now.rabs in
     elim c.levels-test.branch [
       | else-levels-test w ↦ absurd (both_ways c.levels-test.enough (w.enough-is ∙ c.levels.invariant.0) c.if-enough.true)
-      | then-levels-test+then-table-test+else-not-is-candidate+then-room w ↦
+      | then-levels-test+then-table-test+else-not-is_candidate+then-room w ↦
           let i = w.table.b-index in
           let it = w.bearers-b-items.ensures.answer in
           let b : get_or w.bearers-b-items.result.now i blank_bearer ≡ get_or bs i blank_bearer = ap (λ xs. get_or xs i blank_bearer) it in
           let l : i < length bs = subst (λ xs. i < length xs) it w.table-test.true in
           let few : length bs ≤ 64 = subst (λ xs. length xs ≤ 64) it w.bearers-b-items.ensures.few in
           let good = ap bearer_good (sym b) ∙ good_at w.bearers-b-items.result.now i blank_bearer w.bearers-b-items.ensures.good w.table-test.true in
-          let on : candidate c.args.q.now x c.levels.level (get_or bs i blank_bearer) ≡ true = sym (w.if-not-is-candidate.ensures ∙ ap (candidate c.args.q.now x c.levels.level) b) in
+          let on : candidate c.args.q.now x c.levels.level (get_or bs i blank_bearer) ≡ true = sym (w.if-not-is_candidate.ensures ∙ ap (candidate c.args.q.now x c.levels.level) b) in
           let room = placed c.args.q.now x c.levels.level i bs blank_bearer l (chosen w.table.victims) (member w.table.given) w.table.invariant.1 w.table.invariant.2 on few in
           let more = more_by (chosen w.choose.new.self) (chosen w.table.victims) (get_or bs i blank_bearer) (get_or w.bearers-b-items.result.now i blank_bearer) b room w.choose.ensures in
           let grown = grown_by (member w.insert.new.self) (member w.table.given) (get_or bs i blank_bearer) (get_or w.bearers-b-items.result.now i blank_bearer) b good w.insert.ensures in
@@ -114,5 +114,5 @@ returns-else-enough g c =
       | else-levels-test w ↦
           let done : c.levels.level ≡ 0 = omega (arith, w.levels-test.false) in
           ends c.args.q.now x (member c.levels.given) (chosen c.levels.victims) c.levels.level done c.levels.invariant.2
-      | then-levels-test+then-table-test+else-not-is-candidate+then-room w ↦ absurd (both_ways c.levels-test.enough c.if-enough.false w.enough-is)
+      | then-levels-test+then-table-test+else-not-is_candidate+then-room w ↦ absurd (both_ways c.levels-test.enough c.if-enough.false w.enough-is)
     ]

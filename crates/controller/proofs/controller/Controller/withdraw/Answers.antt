@@ -16,15 +16,15 @@ returns g c =
     let l = c.args.reports.now in
     let t = id_of c.args.ticket in
     let id = c.id-id.ensures in
-    let none = ap (λ k. withdraw_refusal (length l) k x) (sym id) ∙ sym c.in-default.ensures in
+    let none = ap (λ k. withdraw_refusal (length l) k x) (sym id) ∙ sym c.in_default.ensures in
     let long = long_list (length l) (withdraw_refusal 288 t x) none in
     let few = withdraw_few x (small m s c.args.self.now) t.number in
     let fits : length (withdraw t.number x).reports ≤ length l = omega (arith, long, few) in
-    let did = gave_as (ap (λ k. withdraw k.number x) id) c.withdraw-number-count.ensures in
+    let did = gave_as (ap (λ k. withdraw k.number x) id) c.withdraw_number-count.ensures in
     let done = answers (λ k. (runs (ticket_at t.number x), k)) (withdraw_refusal (length l) t x) none (obeyed fits did) in
-    let ran = c.is-running-ran.ensures ∙ ap runs c.at.ensures ∙ ap (λ k. runs (ticket_at k.number x)) id in
+    let ran = c.is_running-ran.ensures ∙ ap runs c.at.ensures ∙ ap (λ k. runs (ticket_at k.number x)) id in
     record {
-      answer = ap (λ b. Ok (b, c.withdraw-number-count.result)) ran ∙ ap (handing_back c.args.ticket) done.answer;
+      answer = ap (λ b. Ok (b, c.withdraw_number-count.result)) ran ∙ ap (handing_back c.args.ticket) done.answer;
       state = done.state;
       list = done.list;
     }
