@@ -1,6 +1,7 @@
 -- What is told on a UE's connections, one place further.
 use Rattle.std.proofs.Common.{◌≡◌, ℕ, suc, ◌+◌, ◌<◌, ◌≤◌, Bool, true, false, cond, not, ◌&&◌, List, [], ◌∷◌, ◌++◌, map, length, get_or, drop, None, filter, Option, sym, refl, ap, ◌∙◌, add-one}
-use Rattle.controller.specs.Notices.{notice, spared, told, notices_from}
+use Rattle.controller.specs.Cancel.{spared}
+use Rattle.controller.specs.Notices.{notice, told, notices_from}
 use Rattle.controller.specs.declared.notice.Notice.{Notice}
 use Rattle.rules.specs.Connections.{vacant, of_ue, places_from}
 use Rattle.rules.specs.declared.connection.Connection.{Connection}

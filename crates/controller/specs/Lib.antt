@@ -3,6 +3,7 @@ pub mod Gave
 pub mod Turn
 pub mod Chosen
 pub mod Due
+pub mod Cancel
 pub mod Notices
 pub mod Whose
 pub mod View

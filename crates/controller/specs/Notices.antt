@@ -4,6 +4,7 @@ use Rattle.rules.specs.Connections.{of_ue, places_from}
 use Rattle.rules.specs.Relocation.{required, cancel}
 use Rattle.rules.specs.declared.connection.Connection.{Connection}
 use Rattle.rules.specs.declared.report.Report.{Report}
+use Rattle.controller.specs.Cancel.{spared, cancels}
 use Rattle.controller.specs.declared.notice.Notice.{Notice}
 use Rattle.controller.specs.declared.notice.Notice.TheVariants.{Require, CallOff}
 
@@ -12,14 +13,9 @@ abbrev pub notice : Notice → ℕ → Report
 notice Require p = required p
 notice (CallOff c) p = cancel c p
 
--- whether a place is left out
-abbrev pub spared : Option ℕ → ℕ → Bool
-spared None k = false
-spared (Some p) k = k == p
-
 -- whether a place is told
 abbrev pub told : Option ℕ → ℕ → ℕ → Connection → Bool
-told o u k c = of_ue u c && not (spared o k)
+told o u k c = cancels o u k c
 
 -- the notices on each connection of a UE by place, from place i on
 abbrev pub notices_from : Notice → Option ℕ → ℕ → ℕ → List Connection → List Report

@@ -2,10 +2,12 @@
 ghost use Rattle.controller.specs.Listed.{listed};
 ghost use Rattle.rabctl.specs.Cabinets.{stands, standing};
 ghost use Rattle.rabctl.specs.Replies.{is_error, made_by, reply, after, told, line_reply, after_line, line_told, makes_one, may_want_memory};
+ghost use Rattle.rabctl.specs.declared.answer.Answer.TheVariants.{Error};
+ghost use Rattle.rabctl.specs.declared.problem.Problem.TheVariants.{NoMemory};
 ghost use Rattle.script.specs.Saying.{said};
 ghost use Rattle.script.specs.Script.{meaning};
 ghost use Rattle.std.specs.Option.{option_map};
-ghost use Rattle.std.specs.Prelude.{◌≡◌, true, false, ◌||◌, length, IfOk, None, OnErr, OnOk};
+ghost use Rattle.std.specs.Prelude.{◌≡◌, true, false, ◌||◌, length, IfOk, None, OnErr, OnOk, ◌≢◌};
 
 use crate::answer::Answer;
 use crate::cabinet::Cabinet;
@@ -107,33 +109,26 @@ impl Desk {
     }
 
     // The answer to a line, with a note of whether it is an error. Its reports stand in the first places of the list.
-    // Only a frame line, a room line or the line that makes the cabinet can fail for want of memory: that is noted as
-    // an error too, and nothing is carried out.
-    pub fn answer(
-        &mut self,
-        heap: Global,
-        line: &[u8],
-        reports: &mut [Report],
-    ) -> Result<Answer, AllocError>
-        ensures answer { IfOk result (λ a. a ≡ line_reply (length reports.old) (standing self.old.cabinet) (meaning line.now)) }
-        ensures state { OnOk result (standing self.new.cabinet ≡ after_line (length reports.old) (standing self.old.cabinet) (meaning line.now)) }
-        ensures list { OnOk result (reports.new ≡ listed (line_told (length reports.old) (standing self.old.cabinet) (meaning line.now)) reports.old) }
-        ensures failed { IfOk result (λ a. self.new.failed ≡ (self.old.failed || is_error a)) }
-        ensures kept { OnErr result (standing self.new.cabinet ≡ standing self.old.cabinet) }
-        ensures untouched { OnErr result (reports.new ≡ reports.old) }
-        ensures memory { OnErr result (may_want_memory (standing self.old.cabinet) line.now ≡ true) }
-        ensures unanswered { OnErr result (self.new.failed ≡ true) }
+    // Only a frame line, a room line or the line that makes the cabinet can fail for want of memory, and then nothing is carried out.
+    pub fn answer(&mut self, heap: Global, line: &[u8], reports: &mut [Report]) -> Answer
+        ensures answer { (result ≢ Error NoMemory) → result ≡ line_reply (length reports.old) (standing self.old.cabinet) (meaning line.now) }
+        ensures state { (result ≢ Error NoMemory) → standing self.new.cabinet ≡ after_line (length reports.old) (standing self.old.cabinet) (meaning line.now) }
+        ensures list { (result ≢ Error NoMemory) → reports.new ≡ listed (line_told (length reports.old) (standing self.old.cabinet) (meaning line.now)) reports.old }
+        ensures kept { (standing self.new.cabinet ≢ after_line (length reports.old) (standing self.old.cabinet) (meaning line.now)) → standing self.new.cabinet ≡ standing self.old.cabinet }
+        ensures untouched { (reports.new ≢ listed (line_told (length reports.old) (standing self.old.cabinet) (meaning line.now)) reports.old) → reports.new ≡ reports.old }
+        ensures memory { may_want_memory (standing self.old.cabinet) line.now ≡ false → result ≡ line_reply (length reports.old) (standing self.old.cabinet) (meaning line.now) }
+        ensures failed { self.new.failed ≡ (self.old.failed || is_error result) }
     {
         match self.carry_out_text(heap, line, reports) {
             Ok(answer) => {
                 if answer.is_error() {
                     self.failed = true;
                 }
-                Ok(answer)
+                answer
             }
-            Err(short) => {
+            Err(_) => {
                 self.failed = true;
-                Err(short)
+                Answer::Error(Problem::NoMemory)
             }
         }
     }

@@ -1,7 +1,6 @@
 // Plays a script: each line is answered, and the answer written out, before the next line is read.
 use crate::answer::Answer;
 use crate::desk::Desk;
-use crate::problem::Problem;
 use crate::show;
 use crate::words::ReportWords;
 use rules::report::{Cause, Report, ReportKind};
@@ -65,10 +64,7 @@ fn play_lines(
         if !read_line(&mut input, &mut line)? {
             break;
         }
-        let answer = match desk.answer(heap, line.as_slice(), reports) {
-            Ok(answer) => answer,
-            Err(_) => Answer::Error(Problem::NoMemory),
-        };
+        let answer = desk.answer(heap, line.as_slice(), reports);
         write_out(rt, number, &answer, reports)?;
         picture(rt, number, &answer, &desk)?;
         rt.stdout().flush()?;

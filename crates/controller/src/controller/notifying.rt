@@ -1,5 +1,6 @@
 // What is told on a UE's connections, by place.
-ghost use Rattle.controller.specs.Notices.{notice, spared, told, notices_from};
+ghost use Rattle.controller.specs.Cancel.{spared};
+ghost use Rattle.controller.specs.Notices.{notice, told, notices_from};
 ghost use Rattle.controller.specs.Page.{page, write_all};
 ghost use Rattle.controller.specs.View.{view};
 ghost use Rattle.rules.specs.Connections.{at_place};

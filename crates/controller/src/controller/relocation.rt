@@ -1,6 +1,7 @@
 // How a relocation is commanded, and how it ends.
 ghost use Rattle.controller.specs.Gave.{Gave};
-ghost use Rattle.controller.specs.Page.{page};
+ghost use Rattle.controller.specs.Cancel.{cancels_from};
+ghost use Rattle.controller.specs.Page.{page, write_all};
 ghost use Rattle.controller.specs.View.{view};
 ghost use Rattle.rules.specs.Events.{end_if_running};
 ghost use Rattle.rules.specs.Relocation.{ended, failure, cancel_all, preparation_expires, commanded};
@@ -9,16 +10,29 @@ ghost use Rattle.std.specs.Prelude.{◌≡◌};
 use crate::controller::Controller;
 use crate::notice::Notice;
 use admission::RadioPool;
-use bearers::Change;
 use rules::connection::{Connection, ConnectionState};
 use rules::report::{Cause, Report};
 
 impl<P: RadioPool> Controller<P> {
+    // Kind 9 on each of the UE's connections by place, but for one that is left out.
+    fn cancel_on(
+        &self,
+        ue: u32,
+        except: Option<u8>,
+        cause: Cause,
+        reports: &mut [Report],
+        n: usize,
+    ) -> usize
+        ensures { page reports.new result ≡ write_all (cancels_from cause except ue 0 (view P.radio P.state self.now).connections) (page reports.old n) }
+    {
+        self.notify_on(ue, except, Notice::CallOff(cause), reports, n)
+    }
+
     // The UE's relocation has ended: its connections are open, its ticket still out.
     fn end_relocation(&mut self, ue: u32)
         ensures { view P.radio P.state self.new ≡ ended ue (view P.radio P.state self.old) }
     {
-        self.connections.change(ue, Change::Reopen);
+        self.connections.reopen(ue);
         self.tickets.stop(ue);
     }
 
@@ -27,8 +41,7 @@ impl<P: RadioPool> Controller<P> {
         ensures { Gave (failure place (view P.radio P.state self.old)) (view P.radio P.state self.new) (page reports.old n) (page reports.new result) }
     {
         let ue = self.connections.at(place).ue;
-        let what = Notice::CallOff(Cause::RelocationCancelled);
-        let at = self.notify_on(ue, Some(place), what, reports, n);
+        let at = self.cancel_on(ue, Some(place), Cause::RelocationCancelled, reports, n);
         self.end_relocation(ue);
         at
     }
@@ -43,7 +56,7 @@ impl<P: RadioPool> Controller<P> {
     ) -> usize
         ensures { Gave (cancel_all cause ue (view P.radio P.state self.old)) (view P.radio P.state self.new) (page reports.old n) (page reports.new result) }
     {
-        let at = self.notify_on(ue, None, Notice::CallOff(cause), reports, n);
+        let at = self.cancel_on(ue, None, cause, reports, n);
         self.end_relocation(ue);
         at
     }

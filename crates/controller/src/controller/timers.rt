@@ -11,7 +11,6 @@ ghost use Rattle.std.specs.Prelude.{◌≡◌, length};
 
 use crate::controller::Controller;
 use crate::refusing::{at_place, short_list};
-use crate::whose::Whose;
 use admission::RadioPool;
 use rules::connection::{ConnectionState, Timer};
 use rules::refusal::{Reason, Refusal};
@@ -90,12 +89,7 @@ impl<P: RadioPool> Controller<P> {
     {
         match Timer::of(timer) {
             None => 0,
-            Some(Timer::Tqueuing) => self.fail_all(
-                Cause::TqueuingExpiry,
-                Whose::OnPlace(place),
-                reports,
-                0,
-            ),
+            Some(Timer::Tqueuing) => self.fail_all_at(Cause::TqueuingExpiry, place, reports, 0),
             Some(Timer::Trelocprep) => self.preparation_expires(place, reports, 0),
         }
     }

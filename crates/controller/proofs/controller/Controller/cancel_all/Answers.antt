@@ -12,5 +12,5 @@ returns g c =
     let before = page c.args.reports.now c.args.n in
     record {
       state = c.end_relocation.ensures;
-      page = c.notify_on-at.ensures ∙ ap (λ ps. write_all (map (cancel c.args.cause) ps) before) (none_spared (places_of c.args.ue x));
+      page = c.cancel_on-at.ensures ∙ ap (λ ps. write_all (map (cancel c.args.cause) ps) before) (none_spared (places_of c.args.ue x));
     }
