@@ -1,4 +1,6 @@
 // How many reports a call makes at most: see specs/.
+#![tactic(auto)]
+
 ghost use Rattle.bounds.specs.Bounds.{ItemsBounded, ReportsWithin};
 
 use admission::RadioPool;

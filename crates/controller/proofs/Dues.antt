@@ -1,5 +1,5 @@
 -- The search level by level finds the first by level, then arrival.
-use Rattle.std.proofs.Common.{◌≡◌, ℕ, zero, suc, ◌+◌, ◌-◌, ◌<◌, ◌≤◌, Bool, true, false, cond, ◌&&◌, eqb, leb, List, [], ◌∷◌, length, get_or, drop, Some, None, filter, Option, sym, refl, ap, ◌∙◌, subst, ⊎_elim, arith}
+use Rattle.std.proofs.Common.{◌≡◌, ℕ, zero, suc, ◌+◌, ◌<◌, ◌≤◌, Bool, true, false, cond, ◌&&◌, eqb, leb, List, [], ◌∷◌, length, get_or, drop, Some, None, filter, Option, sym, refl, ap, ◌∙◌, subst, ⊎_elim, arith}
 use Rattle.bearers.specs.Order.{level_good, requests_good}
 use Rattle.controller.specs.Due.{or_else, due, first_due, by_level}
 use Rattle.rules.specs.Preemption.{admitted}
@@ -9,7 +9,6 @@ use Rattle.rules.specs.State.{State}
 use Rattle.rules.specs.declared.bearer.Request.{Request}
 use Rattle.std.proofs.lemmas.List.{at_drop_more, at_drop_all}
 use Rattle.std.proofs.lemmas.Bool.{and_parts, leb-true, le-leb, lt-leb, eqb-true, ne_eqb, eq-eqb, cases_eq}
-use Rattle.std.proofs.lemmas.Bool.Decides.{nat_tests}
 
 -- one level of those that are left
 pub level_next : {m : Radio} (x : State m) (qs : List Request) (l n : ℕ) → by_level x qs l (suc n) ≡ or_else (first_due x l qs) (by_level x qs (l + 1) n)

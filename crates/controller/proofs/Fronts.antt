@@ -1,5 +1,5 @@
 -- The search for the shortest front of the candidates, one RAB or one level further.
-use Rattle.std.proofs.Common.{◌≡◌, ℕ, zero, suc, ◌+◌, ◌-◌, ◌<◌, ◌≤◌, Bool, true, false, cond, ◌&&◌, eqb, leb, List, [], ◌∷◌, ◌++◌, length, get_or, drop, Some, None, filter, Option, sym, refl, ap, ◌∙◌, arith}
+use Rattle.std.proofs.Common.{◌≡◌, ℕ, zero, suc, ◌+◌, ◌-◌, ◌<◌, ◌≤◌, Bool, true, false, cond, leb, List, [], ◌∷◌, ◌++◌, length, get_or, drop, Some, None, filter, Option, sym, refl, ap, ◌∙◌, arith}
 use Rattle.controller.specs.Chosen.{front_for}
 use Rattle.rules.specs.Grants.{added}
 use Rattle.rules.specs.Preemption.{own, own_grant, and_also, candidate, candidates_from, candidates, shortest_front}
@@ -7,7 +7,7 @@ use Rattle.rules.specs.Radio.{Radio}
 use Rattle.rules.specs.State.{State}
 use Rattle.rules.specs.declared.bearer.Bearer.{Bearer}
 use Rattle.rules.specs.declared.bearer.Request.{Request}
-use Rattle.std.proofs.lemmas.List.{at_drop_more, at_drop_all, append_assoc, append-nil, length-append}
+use Rattle.std.proofs.lemmas.List.{at_drop_more, at_drop_all, append_assoc, length-append}
 use Rattle.std.proofs.lemmas.Bool.Decides.{nat_tests}
 
 -- some in front of what a search finds

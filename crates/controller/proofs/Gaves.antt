@@ -3,7 +3,7 @@ use Rattle.std.proofs.Common.{◌≡◌, ℕ, ◌+◌, ◌<◌, ◌≤◌, List,
 use Rattle.controller.specs.Gave.{Gave}
 use Rattle.controller.specs.Page.{Page, write, write_all}
 use Rattle.rules.specs.Radio.{Radio}
-use Rattle.rules.specs.State.{State, Outcome, silent, tell, then, each}
+use Rattle.rules.specs.State.{State, Outcome, silent, then, each}
 use Rattle.rules.specs.declared.report.Report.{Report}
 use Rattle.std.proofs.lemmas.List.{at_drop_more, at_drop_all}
 

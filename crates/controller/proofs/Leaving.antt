@@ -1,5 +1,5 @@
 -- Entries that leave a table one by one: all of a place or of a UE, in their order.
-use Rattle.std.proofs.Common.{◌≡◌, ℕ, suc, ◌+◌, Bool, true, false, cond, not, ◌&&◌, eqb, List, [], ◌∷◌, map, length, Some, None, filter, Option, sym, refl, ap, ◌∙◌, subst, inl, inr, arith}
+use Rattle.std.proofs.Common.{◌≡◌, ℕ, ◌+◌, Bool, true, false, cond, not, List, [], ◌∷◌, map, length, Some, None, filter, sym, refl, ap, ◌∙◌, inl, inr, arith}
 use Rattle.bearers.proofs.Firsts.{all_but, bearers_but, requests_but}
 use Rattle.bearers.specs.Search.{first_of}
 use Rattle.controller.proofs.Served.{In, in_waits}
@@ -10,7 +10,7 @@ use Rattle.rules.specs.Actions.{failed, fail_waiting, drop_bearer}
 use Rattle.rules.specs.Events.{drop_place}
 use Rattle.rules.specs.Radio.{Radio}
 use Rattle.rules.specs.State.{State, Outcome, silent, tell, then, each, at_queue}
-use Rattle.rules.specs.Tables.{is_some, of_rab, asks_for, stands_at, waits_as, without_bearer, without_request}
+use Rattle.rules.specs.Tables.{of_rab, asks_for, stands_at, without_bearer, without_request}
 use Rattle.rules.specs.declared.bearer.Bearer.{Bearer}
 use Rattle.rules.specs.declared.bearer.Request.{Request}
 use Rattle.rules.specs.declared.report.Cause.{Cause}

@@ -5,7 +5,6 @@ use Rattle.controller.specs.Notices.{notice, told, notices_from}
 use Rattle.controller.specs.declared.notice.Notice.{Notice}
 use Rattle.rules.specs.Connections.{vacant, of_ue, places_from}
 use Rattle.rules.specs.declared.connection.Connection.{Connection}
-use Rattle.rules.specs.declared.report.Report.{Report}
 use Rattle.std.proofs.lemmas.List.{at_drop_more, at_drop_all}
 
 module _ (n : Notice) (o : Option ℕ) (u : ℕ) where

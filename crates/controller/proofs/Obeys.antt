@@ -6,7 +6,7 @@ use Rattle.bearers.specs.View.{bearers_of, queue_of}
 use Rattle.bounds.specs.Weights.{Small}
 use Rattle.controller.specs.Gave.{Gave}
 use Rattle.controller.specs.Listed.{listed}
-use Rattle.controller.specs.Page.{Page, page, write, write_all}
+use Rattle.controller.specs.Page.{page, write, write_all}
 use Rattle.controller.specs.View.{view}
 use Rattle.controller.specs.declared.controller.Controller.{Controller}
 use Rattle.rules.specs.Radio.{Radio}

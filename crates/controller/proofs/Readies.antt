@@ -1,17 +1,16 @@
 -- A request may be set up after its own grant and those of its victims are given back.
-use Rattle.std.proofs.Common.{◌≡◌, ℕ, ◌+◌, ◌<◌, ◌≤◌, Bool, true, false, cond, ◌&&◌, ◌||◌, eqb, ltb, List, [], ◌∷◌, Some, None, Option, sym, refl, ap, ◌∙◌, subst, arith}
+use Rattle.std.proofs.Common.{◌≡◌, ℕ, ◌+◌, ◌<◌, Bool, true, false, cond, ◌&&◌, ◌||◌, eqb, ltb, List, [], ◌∷◌, Some, None, Option, sym, refl, ap, ◌∙◌, subst, arith}
 use Rattle.bearers.proofs.Keeps.{Kept, keeps_without, keeps_left}
 use Rattle.bearers.proofs.Known.{fewer, same_new, length_without, known_without}
 use Rattle.bearers.proofs.Standing.{Once, once_from, once_lookup, unset_without, none_head}
-use Rattle.bearers.proofs.Waiting.{Apart, apart_from, nothing_there, none_without}
-use Rattle.bearers.specs.Order.{level_good}
+use Rattle.bearers.proofs.Waiting.{apart_from, none_without}
 use Rattle.controller.specs.Turn.{Ready, Waitable}
-use Rattle.rules.specs.Actions.{fail_waiting, drop_bearer, free_bearer, report}
+use Rattle.rules.specs.Actions.{fail_waiting, free_bearer, report}
 use Rattle.rules.specs.Checks.{known}
 use Rattle.rules.specs.Preemption.{own}
 use Rattle.rules.specs.Radio.{Radio}
 use Rattle.rules.specs.Request.{pre_empt, free_own}
-use Rattle.rules.specs.State.{State, Outcome, each, tell, silent, at_queue}
+use Rattle.rules.specs.State.{State, each, tell, silent, at_queue}
 use Rattle.rules.specs.Tables.{is_some, of_rab, set_up_as, waits_as, without_bearer, without_request, known_in}
 use Rattle.rules.specs.declared.bearer.Bearer.{Bearer}
 use Rattle.rules.specs.declared.bearer.Request.{Request}

@@ -1,20 +1,19 @@
 -- Who is served next waits; it leaves the queue, and may be set up.
-use Rattle.std.proofs.Common.{◌≡◌, ℕ, zero, suc, ◌+◌, ◌<◌, ◌≤◌, Bool, true, false, cond, ◌&&◌, ◌||◌, eqb, ltb, leb, ◌⊎◌, List, [], ◌∷◌, length, Some, None, filter, Option, sym, refl, ap, ◌∙◌, subst, inl, inr, ⊎_elim, arith}
+use Rattle.std.proofs.Common.{◌≡◌, ℕ, zero, suc, ◌+◌, Bool, true, false, cond, ◌&&◌, ◌||◌, eqb, ltb, leb, ◌⊎◌, List, [], ◌∷◌, length, Some, None, filter, Option, sym, refl, ap, ◌∙◌, inl, inr, ⊎_elim, arith}
 use Rattle.bearers.proofs.Known.{one_fewer}
-use Rattle.bearers.proofs.Waiting.{Apart, apart_from, waits_without}
+use Rattle.bearers.proofs.Waiting.{apart_from, waits_without}
 use Rattle.bearers.specs.Order.{level_good, bearers_good, requests_good}
 use Rattle.controller.proofs.Readies.{Ordered}
 use Rattle.controller.specs.Turn.{Waitable}
-use Rattle.rules.specs.Checks.{known}
 use Rattle.rules.specs.Preemption.{own, admitted}
 use Rattle.rules.specs.Queue.{ahead, first_by_level, next, serve_one, serve_up_to}
 use Rattle.rules.specs.Radio.{Radio}
 use Rattle.rules.specs.Request.{free_own, done}
-use Rattle.rules.specs.State.{State, Outcome, silent, then, at_queue}
+use Rattle.rules.specs.State.{State, silent, then, at_queue}
 use Rattle.rules.specs.Tables.{is_some, asks_for, set_up_as, waits_as, without_request, known_in}
 use Rattle.rules.specs.declared.bearer.Bearer.{Bearer}
 use Rattle.rules.specs.declared.bearer.Request.{Request}
-use Rattle.std.proofs.lemmas.Bool.{and_parts, lt-ltb, or_left, or_right}
+use Rattle.std.proofs.lemmas.Bool.{and_parts, lt-ltb, or_right}
 use Rattle.std.proofs.lemmas.Bool.Decides.{nat_tests}
 
 -- a request stands in a list

@@ -1,5 +1,5 @@
 -- What is told on a UE's connections by place: RELOCATION REQUIRED or RELOCATION CANCEL.
-use Rattle.std.specs.Prelude.{ℕ, Bool, false, not, ◌&&◌, List, map, Some, None, filter, Option, ◌==◌}
+use Rattle.std.specs.Prelude.{ℕ, Bool, not, List, map, filter, Option}
 use Rattle.rules.specs.Connections.{of_ue, places_from}
 use Rattle.rules.specs.Relocation.{required, cancel}
 use Rattle.rules.specs.declared.connection.Connection.{Connection}

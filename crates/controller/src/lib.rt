@@ -1,4 +1,6 @@
 // The RAB controller over any radio pool.
+#![tactic(auto)]
+
 mod controller;
 mod notice;
 mod refusing;

@@ -2,7 +2,6 @@
 use Rattle.std.specs.Prelude.{◌≡◌, ℕ, Bool, true, false, not, List, ◌∷◌, filter}
 use Rattle.rules.specs.Radio.{Radio}
 use Rattle.rules.specs.State.{State, then}
-use Rattle.rules.specs.Message.{releases, assignments}
 use Rattle.rules.specs.Events.{release_item, assign_item, assignment}
 use Rattle.rules.specs.declared.item.Item.{Item}
 use Rattle.rules.specs.declared.item.Item.TheVariants.{Assign, Release}

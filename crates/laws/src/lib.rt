@@ -1,4 +1,6 @@
 // Laws of the rules, over every kind of radio pool and in every state. Each is carried by a function that does nothing: see specs/.
+#![tactic(auto)]
+
 ghost use Rattle.laws.specs.Victims.{CandidatesInOrder, ShortestFronts};
 ghost use Rattle.laws.specs.Granted.{RoomIsHad};
 ghost use Rattle.laws.specs.Serving.{QueueInOrder};

@@ -1,5 +1,5 @@
 -- Grant numbers that go into a set one by one.
-use Rattle.std.proofs.Common.{◌≡◌, ℕ, ◌+◌, ◌<◌, ◌≤◌, Bool, true, false, cond, ◌&&◌, ◌||◌, eqb, ltb, List, length, get_or, drop, sym, refl, ap, ◌∙◌, ⊎_elim, arith}
+use Rattle.std.proofs.Common.{◌≡◌, ℕ, ◌+◌, ◌<◌, ◌≤◌, Bool, true, false, cond, ◌&&◌, ◌||◌, eqb, ltb, List, length, get_or, drop, sym, ap, ◌∙◌, ⊎_elim, arith}
 use Rattle.admission.specs.Member.{inserted}
 use Rattle.rabctl.specs.Grants.{among, named_set}
 use Rattle.rules.specs.Grants.{nothing, added}

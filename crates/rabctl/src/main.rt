@@ -1,5 +1,7 @@
 // Plays a script from standard input, or from the file that the first argument names.
 // The status is 1 if a line was an error or the script cannot be read.
+#![tactic(auto)]
+
 mod answer;
 mod cabinet;
 mod desk;

@@ -1,3 +1,5 @@
+#![tactic(auto)]
+
 // Frames at the edges of the format, and what is answered to them.
 #[cfg(test)]
 mod faults;

@@ -3,7 +3,6 @@ use Rattle.std.proofs.Common.{◌≡◌, ℕ, zero, suc, ◌<◌, Bool, true, fa
 use Rattle.std.proofs.lemmas.Bool.Decides.{nat_tests}
 use Rattle.std.proofs.lemmas.Bool.{cases_eq, cases_lt}
 use Rattle.rules.specs.Radio.{Radio, gives}
-use Rattle.rules.specs.State.{State}
 use Rattle.rules.specs.Calls.{given_back, new_state}
 use Rattle.rules.specs.declared.connection.TicketRecord.{TicketRecord}
 use Rattle.runs.specs.Book.{blank}

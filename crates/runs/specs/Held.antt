@@ -1,5 +1,5 @@
 -- The tickets that are held beside a controller: one for each number that is out.
-use Rattle.std.specs.Prelude.{◌≡◌, ℕ, cond, List, map, Some, None, Option, slice_index_or}
+use Rattle.std.specs.Prelude.{◌≡◌, ℕ, cond, List, Some, None, Option, slice_index_or}
 use Rattle.std.specs.Option.{option_map}
 use Rattle.bearers.specs.Places.{tickets_of}
 use Rattle.controller.specs.Tickets.{id_of}

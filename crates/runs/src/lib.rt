@@ -1,4 +1,6 @@
 // Controllers of which the law of runs holds: see specs/. The lemmas by which book and state agree through each call are in proofs/.
+#![tactic(auto)]
+
 mod site;
 
 ghost use Rattle.controller.specs.View.{view};

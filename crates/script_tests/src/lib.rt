@@ -1,3 +1,5 @@
+#![tactic(auto)]
+
 // The library `script` on examples: a table of lines with what each says.
 #[cfg(test)]
 mod told;

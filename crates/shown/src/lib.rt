@@ -1,4 +1,6 @@
 // Worked examples, computed from the definitions that the contracts cite.
+#![tactic(auto)]
+
 ghost use Rattle.admission.specs.Rate.{rates};
 ghost use Rattle.admission.specs.Tree.{codes};
 ghost use Rattle.admission.specs.Undone.{GiveUndoesTake};

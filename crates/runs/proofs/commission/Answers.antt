@@ -1,9 +1,7 @@
-use Rattle.controller.specs.View.{view}
-use Rattle.rules.specs.Calls.{new_state}
 use Rattle.runs.proofs.Every.{every_run}
 use Rattle.runs.proofs.commission.Goals as goal
 use Rattle.runs.specs.Law.{Laws, LawOfRuns}
-use Rattle.std.proofs.Common.{◌≡◌, IfOk, Ok, Err, Result, sym, subst}
+use Rattle.std.proofs.Common.{IfOk, Ok, Err, Result, sym, subst}
 
 -- what holds of everything made so
 made_then : {X Y : Type 0} (r : Result X Y) (f g : X → Type 0) → ((x : X) → f x → g x) → IfOk r f → IfOk r g

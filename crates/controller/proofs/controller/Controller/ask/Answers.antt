@@ -2,7 +2,6 @@ use Rattle.controller.proofs.Asks.{ask_admitted, ask_untriggered, ask_front}
 use Rattle.controller.proofs.Gaves.{gave_as}
 use Rattle.controller.proofs.controller.Controller.ask.Goals as goal
 use Rattle.controller.specs.View.{view}
-use Rattle.rules.specs.Request.{done}
 use Rattle.std.proofs.Common.{Some, None, sym, ap, ◌∙◌}
 
 pub returns-then-is_admitted : goal.returns-then-is_admitted

@@ -8,7 +8,7 @@ use Rattle.controller.specs.View.{view}
 use Rattle.rules.specs.Actions.{establish}
 use Rattle.rules.specs.Request.{pre_empt, free_own, done}
 use Rattle.rules.specs.State.{each}
-use Rattle.std.proofs.Common.{◌≡◌, sym, ap, ◌∙◌, subst}
+use Rattle.std.proofs.Common.{sym, ap, ◌∙◌, subst}
 
 pub establish-requires : goal.establish-requires
 establish-requires g c =

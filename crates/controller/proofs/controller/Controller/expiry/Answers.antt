@@ -1,10 +1,10 @@
-use Rattle.std.proofs.Common.{◌≡◌, ◌≤◌, length, sym, arith}
+use Rattle.std.proofs.Common.{◌≤◌, length, sym, arith}
 use Rattle.bounds.proofs.Bound.{expires_few}
 use Rattle.controller.proofs.Obeys.{obeyed, small, answers, long_list}
 use Rattle.controller.proofs.controller.Controller.expiry.Goals as goal
 use Rattle.controller.specs.View.{view}
 use Rattle.rules.specs.Numbers.{timer_of}
-use Rattle.rules.specs.Refusals.{expiry_refusal, first_reason}
+use Rattle.rules.specs.Refusals.{expiry_refusal}
 use Rattle.rules.specs.Timers.{expires}
 
 pub returns : goal.returns

@@ -1,4 +1,4 @@
-use Rattle.std.proofs.Common.{◌≡◌, ◌≤◌, length, sym, arith}
+use Rattle.std.proofs.Common.{◌≤◌, length, sym, arith}
 use Rattle.bounds.proofs.Bound.{handled_few}
 use Rattle.bounds.proofs.Frames.{received_few}
 use Rattle.controller.proofs.Obeys.{obeyed, small, frame_answers}

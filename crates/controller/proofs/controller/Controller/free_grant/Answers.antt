@@ -1,8 +1,6 @@
-use Rattle.std.proofs.Common.{◌≡◌, ℕ, ◌≤◌, Bool, true, false, eqb, sym, ap, ◌∙◌, arith}
+use Rattle.std.proofs.Common.{◌≡◌, true, false, eqb, sym, ◌∙◌, arith}
 use Rattle.bearers.proofs.Frees.{free_more, free_here, free_end}
-use Rattle.controller.proofs.controller.Controller.free_grant.Given as given
 use Rattle.controller.proofs.controller.Controller.free_grant.Goals as goal
-use Rattle.rules.specs.Tables.{first_from}
 use Rattle.std.proofs.lemmas.Bool.{eq-eqb, ne_eqb}
 
 pub returns-then-held-eq0 : goal.returns-then-held-eq0

@@ -1,11 +1,10 @@
-use Rattle.std.proofs.Common.{◌≡◌, ℕ, suc, ◌+◌, ◌-◌, ◌<◌, ◌≤◌, true, false, List, length, get_or, drop, Some, None, sym, ap, ◌∙◌, subst, arith}
+use Rattle.std.proofs.Common.{◌≡◌, suc, ◌+◌, ◌-◌, ◌<◌, ◌≤◌, true, false, length, get_or, Some, sym, ap, ◌∙◌, subst, arith}
 use Rattle.bearers.specs.Order.{bearers_good, requests_good}
 use Rattle.std.proofs.lemmas.Bool.{and_parts}
 use Rattle.controller.proofs.Dues.{level_next, level_none, due_more, due_here, due_end, next_found}
 use Rattle.controller.proofs.controller.Controller.next_admitted.Goals as goal
-use Rattle.controller.specs.Due.{or_else, due, first_due, by_level}
+use Rattle.controller.specs.Due.{or_else, due, by_level}
 use Rattle.controller.specs.View.{view}
-use Rattle.rules.specs.declared.bearer.Request.{Request}
 use Rattle.bearers.proofs.Firsts.{blank_request}
 
 pub waiting-init : goal.waiting-init

@@ -1,5 +1,4 @@
 use Rattle.std.proofs.Common.{◌≡◌, ◌+◌, ◌-◌, drop, None}
-use Rattle.bearers.specs.View.{queue_of}
 use Rattle.controller.proofs.controller.Controller.next_admitted.Given as goal
 use Rattle.controller.specs.Due.{or_else, first_due, by_level}
 use Rattle.controller.specs.View.{view}

@@ -1,5 +1,4 @@
 use Rattle.controller.proofs.Served.{served_waitable}
-use Rattle.controller.proofs.controller.Controller.serve_one.Given as given
 use Rattle.controller.proofs.controller.Controller.serve_one.Goals as goal
 use Rattle.controller.proofs.controller.Controller.serve_one.Goals.{After-remove_request}
 use Rattle.controller.specs.Gave.{Gave}

@@ -1,19 +1,16 @@
-use Rattle.std.proofs.Common.{◌≡◌, ℕ, ◌+◌, ◌-◌, ◌<◌, ◌≤◌, Bool, true, false, cond, ltb, List, [], ◌∷◌, ◌++◌, length, get_or, drop, Some, sym, refl, ap, ◌∙◌, subst, arith}
+use Rattle.std.proofs.Common.{◌≡◌, ℕ, ◌<◌, ◌≤◌, Bool, true, false, cond, ltb, List, [], ◌∷◌, ◌++◌, length, get_or, Some, sym, refl, ap, ◌∙◌, subst, arith}
 use Rattle.admission.specs.Member.{member, inserted}
 use Rattle.bearers.proofs.Firsts.{blank_bearer}
 use Rattle.bearers.proofs.Ranges.{good_at}
 use Rattle.bearers.specs.Order.{bearer_good, level_good}
 use Rattle.bearers.specs.View.{bearers_of}
-use Rattle.controller.proofs.Fronts.{in_front, left, begins, ends, level_left, left_end, passed_by, placed, added_on, room_found}
-use Rattle.controller.proofs.controller.Controller.victims.Given as given
+use Rattle.controller.proofs.Fronts.{in_front, begins, ends, level_left, left_end, passed_by, placed, added_on, room_found}
 use Rattle.controller.proofs.controller.Controller.victims.Goals as goal
 use Rattle.controller.proofs.controller.Controller.victims.Goals.{else-levels-test, then-levels-test+then-table-test+else-not-is_candidate+then-room}
 use Rattle.controller.specs.Chosen.{chosen}
 use Rattle.controller.specs.View.{view}
 use Rattle.rules.specs.Grants.{added}
 use Rattle.rules.specs.Preemption.{own_grant, candidate, shortest_front}
-use Rattle.rules.specs.Radio.{Radio}
-use Rattle.rules.specs.State.{State}
 use Rattle.rules.specs.declared.bearer.Bearer.{Bearer}
 use Rattle.std.proofs.lemmas.Bool.{lt-ltb, and_parts, both_ways}
 

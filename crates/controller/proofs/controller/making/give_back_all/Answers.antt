@@ -1,5 +1,5 @@
 use Rattle.controller.proofs.controller.making.give_back_all.Goals as goal
-use Rattle.std.proofs.Common.{◌≡◌, ◌≤◌, sym, refl, ap, ◌∙◌, add-one, arith}
+use Rattle.std.proofs.Common.{◌≡◌, sym, refl, ap, ◌∙◌, add-one, arith}
 use Rattle.rules.specs.Calls.{given_back}
 use Rattle.rules.specs.Radio.{after_give}
 
