@@ -1,3 +1,5 @@
+#![tactic(auto)]
+
 // Runs of a controller over both pools, and what is told in them.
 #[cfg(test)]
 mod calls;
