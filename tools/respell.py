@@ -13,7 +13,7 @@ RT = sorted(glob.glob('crates/*/src/**/*.rt', recursive=True))
 EDITS = sorted(glob.glob('crates/*/must-fail/*.edit'))
 
 DEFINED = re.compile(r"\s*((?:abbrev|unfoldable|pub|infixr?|infixl)\s+)*(?:record\s+|data\s+|ruleset\s+)?([A-Za-z][^\s:(){}\[\].,;λ]*)\s*(?::(?!:)|\(|\{|where)")
-TOKEN = re.compile(r"[^\s(){}\[\];,.λ`\"]+")
+TOKEN = re.compile(r'"(?:[^"\\]|\\.)*"|[^\s(){}\[\];,.λ`"]+')
 
 
 def split_comment(line, marker):

@@ -19,8 +19,8 @@ impl fmt::Display for PriorityWords {
     fn fmt<W: fmt::Write>(&self, f: &mut fmt::Formatter<W>) -> fmt::Result {
         let level = self.0.level;
         write!(f, "level {level}")?;
-        write_if(f, self.0.triggers, ", may pre_empt")?;
-        write_if(f, self.0.preemptable, ", pre_emptable")?;
+        write_if(f, self.0.triggers, ", may pre-empt")?;
+        write_if(f, self.0.preemptable, ", pre-emptable")?;
         write_if(f, self.0.queuing, ", may queue")
     }
 }

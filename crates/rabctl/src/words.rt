@@ -43,7 +43,7 @@ pub fn domain_words(domain: Domain) -> &'static str {
 fn cause_words(cause: Cause) -> &'static str {
     match cause {
         Cause::NoCause => "no cause",
-        Cause::RabPreempted => "RAB pre_empted",
+        Cause::RabPreempted => "RAB pre-empted",
         Cause::TqueuingExpiry => "TQUEUING expiry",
         Cause::RelocationTriggered => "relocation triggered",
         Cause::TrelocprepExpiry => "TRELOCprep expiry",
