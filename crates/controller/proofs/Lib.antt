@@ -7,6 +7,7 @@ pub mod Served
 pub mod Supersedes
 pub mod ByKind
 pub mod Notified
+pub mod Cancels
 pub mod Leaving
 mod Waiters
 mod Obeys
