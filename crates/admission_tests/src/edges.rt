@@ -1,8 +1,8 @@
 // Sizes, grant numbers and capacities at their limits and past them.
 use admission::{CodeTree, GrantSet, RadioPool, RatePool};
-use std::process::Abort;
+use std::test::Fail;
 
-fn sizes_of_a_new_pool<P: RadioPool>(rt: &impl Abort, pool: &P) {
+fn sizes_of_a_new_pool<P: RadioPool>(pool: &P) -> Result<(), Fail> {
     let nothing = GrantSet::empty();
     for (size, admitted) in [
         (0u8, false),
@@ -12,17 +12,24 @@ fn sizes_of_a_new_pool<P: RadioPool>(rt: &impl Abort, pool: &P) {
         (65, false),
         (255, false),
     ] {
-        assert_eq!(rt; pool.room(&nothing, size), admitted);
+        if pool.room(&nothing, size) != admitted {
+            return Err(Fail::new("a size at the limits is not answered as it should be"));
+        }
     }
+    Ok(())
 }
 
 // A held number, and one over 63, is not taken; one that is not held is not given back.
-fn numbers_of_a_new_pool<P: RadioPool>(rt: &impl Abort, pool: &mut P) {
+fn numbers_of_a_new_pool<P: RadioPool>(pool: &mut P) -> Result<(), Fail> {
     for (grant, taken) in [(63u8, true), (63, false), (64, false), (255, false)] {
-        assert_eq!(rt; pool.take(grant, 64), taken);
+        if pool.take(grant, 64) != taken {
+            return Err(Fail::new("a take is not answered as it should be"));
+        }
     }
     for (grant, size) in [(62u8, 0u8), (63, 64), (64, 0), (255, 0)] {
-        assert_eq!(rt; pool.held(grant), size);
+        if pool.held(grant) != size {
+            return Err(Fail::new("a number does not hold what it should"));
+        }
     }
     for (grant, given) in [
         (62u8, false),
@@ -31,23 +38,28 @@ fn numbers_of_a_new_pool<P: RadioPool>(rt: &impl Abort, pool: &mut P) {
         (63, true),
         (63, false),
     ] {
-        assert_eq!(rt; pool.give(grant), given);
+        if pool.give(grant) != given {
+            return Err(Fail::new("a give is not answered as it should be"));
+        }
     }
-    assert_eq!(rt; pool.held(63), 0);
+    if pool.held(63) != 0 {
+        return Err(Fail::new("number 63 is still held"));
+    }
+    Ok(())
 }
 
 #[test]
-fn tree_edges(rt: HostRuntime) {
+fn tree_edges() -> Result<(), Fail> {
     let mut tree = CodeTree::new();
-    sizes_of_a_new_pool(&rt, &tree);
-    numbers_of_a_new_pool(&rt, &mut tree);
+    sizes_of_a_new_pool(&tree)?;
+    numbers_of_a_new_pool(&mut tree)
 }
 
 #[test]
-fn rate_edges(rt: HostRuntime) {
+fn rate_edges() -> Result<(), Fail> {
     let mut pool = RatePool::new(64);
-    sizes_of_a_new_pool(&rt, &pool);
-    numbers_of_a_new_pool(&rt, &mut pool);
+    sizes_of_a_new_pool(&pool)?;
+    numbers_of_a_new_pool(&mut pool)
 }
 
 #[test]

@@ -3,27 +3,30 @@ use crate::steps::{asking, refused, releasing, tells};
 use admission::{RadioPool, RatePool};
 use controller::Controller;
 use std::alloc::Global;
-use std::process::Abort;
 use std::test::*;
 
 // RAB 5 is set up with 8 of 10.
-fn begin(rt: &impl Abort, alloc: Global) -> Result<Controller<RatePool>, Fail> {
+fn begin(alloc: Global) -> Result<Controller<RatePool>, Fail> {
     let mut c = Controller::new(1, RatePool::new(10), alloc)?;
-    assert!(rt; c.open(0, 7, 1).is_ok());
-    assert!(rt; tells(&mut c, &asking(0, 5, 8, 3, 7), &[[1, 0, 5, 0, 8]]));
+    if c.open(0, 7, 1).is_err() {
+        return Err(Fail::new("place 0 is not opened"));
+    }
+    if !tells(&mut c, &asking(0, 5, 8, 3, 7), &[[1, 0, 5, 0, 8]]) {
+        return Err(Fail::new("RAB 5 is not set up"));
+    }
     Ok(c)
 }
 
 #[test]
 fn two_are_left(rt: HostRuntime) -> Result<(), Fail> {
-    let mut c = begin(&rt, rt.alloc())?;
+    let mut c = begin(rt.alloc())?;
     assert!(rt; tells(&mut c, &asking(0, 6, 2, 3, 0), &[[1, 0, 6, 0, 2]]));
     Ok(())
 }
 
 #[test]
 fn three_wait_until_a_release(rt: HostRuntime) -> Result<(), Fail> {
-    let mut c = begin(&rt, rt.alloc())?;
+    let mut c = begin(rt.alloc())?;
     assert!(rt; tells(&mut c, &asking(0, 6, 3, 3, 4), &[[2, 0, 6, 0, 0]]));
     assert!(rt;
         tells(
@@ -38,7 +41,7 @@ fn three_wait_until_a_release(rt: HostRuntime) -> Result<(), Fail> {
 
 #[test]
 fn a_waiting_request_is_superseded(rt: HostRuntime) -> Result<(), Fail> {
-    let mut c = begin(&rt, rt.alloc())?;
+    let mut c = begin(rt.alloc())?;
     assert!(rt; tells(&mut c, &asking(0, 6, 3, 3, 4), &[[2, 0, 6, 0, 0]]));
     assert!(rt;
         tells(
@@ -52,7 +55,7 @@ fn a_waiting_request_is_superseded(rt: HostRuntime) -> Result<(), Fail> {
 
 #[test]
 fn a_higher_level_pre_empts(rt: HostRuntime) -> Result<(), Fail> {
-    let mut c = begin(&rt, rt.alloc())?;
+    let mut c = begin(rt.alloc())?;
     assert!(rt; tells(&mut c, &asking(0, 9, 4, 3, 1), &[[3, 0, 9, 6, 0]]));
     assert!(rt;
         tells(
@@ -66,7 +69,7 @@ fn a_higher_level_pre_empts(rt: HostRuntime) -> Result<(), Fail> {
 
 #[test]
 fn overlapping_items(rt: HostRuntime) -> Result<(), Fail> {
-    let mut c = begin(&rt, rt.alloc())?;
+    let mut c = begin(rt.alloc())?;
     let mut frame = [
         1, 0, 0, 2, 0, 12, 0, 6, 0, 17, 0, 6, 1, 6, 0x1b, 1, 3, 0, 1, 7, 0x1b, 1, 3, 0,
     ];
