@@ -1,7 +1,7 @@
 -- That the definitions of the code tree say what its rules say.
-use Rattle.std.proofs.Common.{◌≡◌, ℕ, ◌+◌, ◌*◌, ◌/◌, ◌%◌, ◌<◌, ◌≤◌, Bool, true, eqb, is_some, Some, None, Decides, Option, refl, ap, ◌∙◌, subst, ⊎_elim, mul-le-mul_right, add-mul, div-add-mod', arith}
+use Rattle.std.proofs.Common.{◌≡◌, ℕ, ◌+◌, ◌*◌, ◌/◌, ◌%◌, ◌<◌, ◌≤◌, Bool, true, is_some, Some, None, ◌≢◌, Decides, Option, refl, ap, ◌∙◌, subst, ⊎_elim, mul-le-mul_right, add-mul, div-add-mod', arith}
 use Rattle.std.proofs.lemmas.Nat.{le-div, mod-mul-add}
-use Rattle.std.proofs.lemmas.Bool.{cases_lt, both_ways, cond-true, cond-false, eq-eqb, ne_eqb}
+use Rattle.std.proofs.lemmas.Bool.{cases_lt, cases_eq, both_ways, cond-true, cond-false}
 use Rattle.std.proofs.lemmas.Bool.Decides.{nat_tests}
 use Rattle.rules.specs.Grants.{nothing}
 use Rattle.rules.specs.Radio.{takes}
@@ -10,7 +10,7 @@ use Rattle.admission.specs.TreeRules.{RoundsUp, FreeBlock, RoomFor, Placed, Clea
 use Rattle.admission.specs.Obeyed.{takes_parts}
 use Rattle.admission.specs.RangesLemmas.{all_each, all_made}
 use Rattle.admission.specs.TreeLaws.{block_found, now_at, makes_room, sized, in_bounds, from_bounds}
-use Rattle.admission.specs.Widths.{power_of, log, enough, least, tiles, width_pos, block_within}
+use Rattle.admission.specs.Widths.{power_of, log, enough, least, width_pos, block_within}
 
 rounds_up : (s : ℕ) → s ≤ 64 → RoundsUp s (rounded s)
 rounds_up s small = record { power = (log s, power_of s); enough = enough s small; least = least s }
@@ -36,7 +36,7 @@ module _ (s start : ℕ) (aligned : start % rounded s ≡ 0) (within : start + r
 free_block : (free : ℕ → Bool) (s j : ℕ) → j < 256 / rounded s → block_free free (rounded s) j ≡ true → FreeBlock free (rounded s) (j * rounded s)
 free_block free s j below all = record {
   aligned = ap (λ n. n % rounded s) (omega arith) ∙ mod-mul-add j (rounded s) 0 (width_pos s);
-  within = block_within (rounded s) j (tiles s) below;
+  within = block_within (rounded s) j below;
   leaves = all_each free (j * rounded s) (rounded s) all;
 }
 
@@ -90,10 +90,7 @@ placed x g s does =
     }
 
 pub cleared : (x : Tree) (g : ℕ) → Cleared x (codes.given x g) g
-cleared x g = record {
-  free = λ i e. ap (left_by g) e ∙ cond-true (eqb g g) None (Some g) (eq-eqb g g refl);
-  others = λ i ne. kept (x.owner i) ne;
-} where
-  kept : (o : Option ℕ) → (o ≡ Some g → ⊥) → left_by g o ≡ o
+cleared x g = record { free = λ i e. ap (left_by g) e ∙ grind (arith, nat_tests); others = λ i ne. kept (x.owner i) ne } where
+  kept : (o : Option ℕ) → (o ≢ Some g) → left_by g o ≡ o
   kept None ne = refl
-  kept (Some k) ne = cond-false (eqb k g) None (Some k) (ne_eqb k g (λ e. ne (ap (λ n. Some n) e)))
+  kept (Some k) ne = ⊎_elim (λ e. absurd (ne (ap (λ n. Some n) e))) (λ other. grind (arith, nat_tests)) (cases_eq k g)

@@ -1,5 +1,6 @@
 -- The OVSF code tree: 256 leaves, the codes of spreading factor 256, each free or a grant's.
 use Rattle.std.specs.Prelude.{◌≡◌, ℕ, ◌+◌, ◌*◌, ◌/◌, ◌<◌, ◌≤◌, Bool, true, cond, ◌&&◌, is_some, Some, None, Decides, Option, ◌==◌, nat_le, nat_lt}
+use Rattle.std.specs.declared.ops.Range.{Range}
 use Rattle.rules.specs.Grants.{nothing}
 use Rattle.rules.specs.Radio.{Radio, put}
 use Rattle.admission.specs.Ranges.{all_from, first_from}
@@ -39,6 +40,18 @@ block_for free s = cond (nat_lt 0 s && nat_le s 64) (lowest free (rounded s)) No
 -- a size is admitted when there is a block for it among the free leaves
 abbrev pub tree_admits : Tree → (ℕ → Bool) → ℕ → Bool
 tree_admits x n s = is_some (block_for (free_leaves x n) s)
+
+-- the leaves of block j of w leaves, from the first to the one past the last
+abbrev pub leaves_of : ℕ → ℕ → Range ℕ
+leaves_of w j = record { start = j * w; end = j * w + w }
+
+-- leaves of the tree
+abbrev pub InTree : Range ℕ → Type 0
+InTree leaves = (leaves.start ≤ leaves.end) × (leaves.end ≤ 256)
+
+-- the owners once a grant stands on leaves
+abbrev pub moved_to : Range ℕ → ℕ → (ℕ → Option ℕ) → ℕ → Option ℕ
+moved_to leaves g f i = cond (nat_le leaves.start i && nat_lt i leaves.end) (Some g) (f i)
 
 -- whether leaf i is in block j of w leaves
 abbrev pub in_block : ℕ → ℕ → ℕ → Bool

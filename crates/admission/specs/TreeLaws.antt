@@ -1,22 +1,24 @@
 -- The laws of the code tree.
-use Rattle.std.specs.Prelude.{◌≡◌, ℕ, ◌+◌, ◌*◌, ◌/◌, ◌<◌, ◌≤◌, Bool, true, false, cond, ◌&&◌, ◌||◌, is_some, Some, None, Option, ◌==◌, ◌≢◌, nat_le, nat_lt, refl}
+use Rattle.std.specs.Prelude.{◌≡◌, ℕ, ◌+◌, ◌*◌, ◌/◌, ◌<◌, ◌≤◌, Bool, true, false, cond, is_some, Some, None, Option, ◌==◌, ◌≢◌, refl}
 use Rattle.std.proofs.Common.{sym, ap, ◌∙◌, subst, ⊎_elim, arith}
 use Rattle.std.proofs.Math.Path.{fun_ext}
-use Rattle.std.proofs.lemmas.Bool.{cases_eq, cases_Bool, both_ways, and_from, lt-ltb, cond-true, cond-false, ne_eqb, eq-eqb}
+use Rattle.std.proofs.lemmas.Bool.{cases_eq, cases_Bool, cond-true, cond-false, ne_eqb}
 use Rattle.std.proofs.lemmas.Bool.Decides.{Decides-like, nat_tests}
+use Rattle.std.proofs.lemmas.Grind.{common_steps}
+use Rattle.std.proofs.lemmas.Option.{none-some, same_Some}
 use Rattle.rules.specs.Grants.{nothing, everything, added}
 use Rattle.rules.specs.Radio.{Lawful, Taken, Given, takes, gives, put}
 use Rattle.admission.specs.Tree.{Tree, Settled, Stands, bare, codes, rounded, free_of, free_leaves, block_free, lowest, block_for, in_block, moved_in, left_by, moved_out}
 use Rattle.admission.specs.Obeyed.{takes_parts, gives_part}
 use Rattle.admission.specs.Puts.{put_at, put_off, put_small, put_numbers, numbered}
-use Rattle.admission.specs.RangesLemmas.{none_is_some, First, first_is, first_exists, all_each, all_made}
+use Rattle.admission.specs.RangesLemmas.{First, first_is, first_exists, all_each, all_made}
 use Rattle.admission.specs.Widths.{finer}
 
 pub bare_settled : Settled bare
 bare_settled = record {
   numbers = λ g out. refl;
   small = λ g. omega arith;
-  held = λ i g e. absurd (none_is_some g e);
+  held = λ i g e. absurd (none-some g e);
   block = λ g some. absurd (omega arith);
 }
 
@@ -33,20 +35,12 @@ from_bounds w j i l h = grind (arith, nat_tests)
 abbrev by_leaves : ℕ → (ℕ → Bool) → Bool
 by_leaves s free = is_some (block_for free s)
 
-of_size : (b : Bool) (o : Option ℕ) → is_some (cond b o None) ≡ true → b ≡ true
-of_size true o e = refl
-of_size false o e = e
-
 pub sized : (free : ℕ → Bool) (s : ℕ) → by_leaves s free ≡ true → (0 < s) × (s ≤ 64)
-sized free s e =
-    let both : (nat_lt 0 s && nat_le s 64) ≡ true = of_size (nat_lt 0 s && nat_le s 64) (lowest free (rounded s)) e in
-    (grind (arith, nat_tests), grind (arith, nat_tests))
+sized free s e = grind (arith, common_steps, nat_tests)
 
 -- for a size from 1 to 64, the lowest free block of its rounded size
 pub block_at : (free : ℕ → Bool) (s : ℕ) → 0 < s → s ≤ 64 → block_for free s ≡ lowest free (rounded s)
-block_at free s some small =
-    let both : (nat_lt 0 s && nat_le s 64) ≡ true = grind (arith, nat_tests) in
-    cond-true (nat_lt 0 s && nat_le s 64) (lowest free (rounded s)) None both
+block_at free s some small = grind (arith, nat_tests)
 
 -- a block all of whose leaves are free makes room
 pub makes_room : (free : ℕ → Bool) (s j : ℕ) → 0 < s → s ≤ 64 → j < 256 / rounded s → ((i : ℕ) → in_block (rounded s) j i ≡ true → free i ≡ true) → by_leaves s free ≡ true
@@ -55,7 +49,7 @@ makes_room free s j some small below each =
     ap is_some (block_at free s some small) ∙ first_exists (block_free free (rounded s)) 0 (256 / rounded s) j (omega arith) (omega arith) here
 
 pub some_of : (o : Option ℕ) → is_some o ≡ true → (j : ℕ) × (o ≡ Some j)
-some_of None e = absurd (both_ways false refl e)
+some_of None e = cc
 some_of (Some j) e = (j, refl)
 
 -- where there is room, the block that a size takes
@@ -90,7 +84,7 @@ free_when n (Some g) named = named g refl
 -- with nothing given back, a free leaf has no owner
 pub no_owner : (o : Option ℕ) → free_of nothing o ≡ true → o ≡ None
 no_owner None e = refl
-no_owner (Some g) e = absurd (both_ways false refl e)
+no_owner (Some g) e = cc
 
 pub lawful : (x : Tree) → Settled x → Lawful codes x
 lawful x ok = record {
@@ -118,9 +112,6 @@ lawful x ok = record {
 pub now_at : (x : Tree) (g s j i : ℕ) → block_for (free_leaves x nothing) s ≡ Some j → (codes.taken x g s).owner i ≡ cond (in_block (rounded s) j i) (Some g) (x.owner i)
 now_at x g s j i e = ap (λ o. moved_in x.owner g (rounded s) o i) e
 
-pub some_is : (a b : ℕ) → ◌≡◌ {A = Option ℕ} (Some a) (Some b) → a ≡ b
-some_is a b e = cc
-
 -- who keeps its leaves, and gets no other, stands as before
 stands_still :
     (f h : ℕ → Option ℕ) (k s : ℕ) → ((i : ℕ) → f i ≡ Some k → h i ≡ Some k) → ((i : ℕ) → h i ≡ Some k → f i ≡ Some k) → Stands f k s → Stands h k s
@@ -145,7 +136,7 @@ taken x g s ok does =
         small = put_small x.sizes g s size.1 ok.small;
         held = λ i k e.
             ⊎_elim
-            (λ in'. let same : k ≡ g = some_is k g (sym e ∙ own i in') in omega (arith, put_at x.sizes g s k same, size))
+            (λ in'. let same : k ≡ g = same_Some k g (sym e ∙ own i in') in omega (arith, put_at x.sizes g s k same, size))
             (λ out.
             let some : 0 < x.sizes k = ok.held i k (sym (kept i out) ∙ e) in
             ⊎_elim (λ same. omega (arith, put_at x.sizes g s k same, size)) (λ ne. omega (arith, put_off x.sizes g s k ne)) (cases_eq k g))
@@ -162,10 +153,10 @@ taken x g s ok does =
             (λ ne.
             let size-kept : put x.sizes g s k ≡ x.sizes k = put_off x.sizes g s k ne in
             let to : (i : ℕ) → x.owner i ≡ Some k → y.owner i ≡ Some k = λ i e.
-            ⊎_elim (λ in'. absurd (none_is_some k (sym (vacant i in') ∙ e))) (λ out. kept i out ∙ e) (cases_Bool (inside i))
+            ⊎_elim (λ in'. absurd (none-some k (sym (vacant i in') ∙ e))) (λ out. kept i out ∙ e) (cases_Bool (inside i))
             in
             let back : (i : ℕ) → y.owner i ≡ Some k → x.owner i ≡ Some k = λ i e.
-            ⊎_elim (λ in'. absurd (ne (some_is k g (sym e ∙ own i in')))) (λ out. sym (kept i out) ∙ e) (cases_Bool (inside i))
+            ⊎_elim (λ in'. absurd (ne (same_Some k g (sym e ∙ own i in')))) (λ out. sym (kept i out) ∙ e) (cases_Bool (inside i))
             in
             subst (Stands y.owner k) (sym size-kept) (stands_still x.owner y.owner k (x.sizes k) to back (ok.block k (omega arith))))
             (cases_eq k g);
@@ -182,11 +173,9 @@ taken x g s ok does =
 
 -- a take of a fresh grant that finds a block is obeyed
 pub takes_where : (x : Tree) (g s j : ℕ) → g < 64 → x.sizes g ≡ 0 → Some j ≡ block_for (free_leaves x nothing) s → takes codes x g s ≡ true
-takes_where x g s j number fresh found =
-    and_from (nat_lt g 64) (x.sizes g == 0 && codes.admits x nothing s) (lt-ltb g 64 number)
-    (and_from (x.sizes g == 0) (codes.admits x nothing s) (eq-eqb (x.sizes g) 0 fresh) (ap is_some (sym found)))
+takes_where x g s j number fresh found = grind (arith, common_steps, nat_tests, ap is_some (sym found))
 
--- the state after it
+-- the state after a take whose block is known
 pub taken_where :
     (x : Tree) (g s j w : ℕ) (sizes : ℕ → ℕ) (owner : ℕ → Option ℕ) → Some j ≡ block_for (free_leaves x nothing) s → w ≡ rounded s →
     sizes ≡ put x.sizes g s → owner ≡ moved_in x.owner g w (Some j) → ◌≡◌ {A = Tree} (record { sizes = sizes; owner = owner }) (codes.taken x g s)
@@ -199,21 +188,12 @@ taken_where x g s j w sizes owner found wide is-sizes is-owner =
 -- with the grant gone, a leaf is free where it was with the grant named
 free_left : (n : ℕ → Bool) (g : ℕ) (o : Option ℕ) → free_of n (left_by g o) ≡ free_of (added n g) o
 free_left n g None = refl
-free_left n g (Some k) = at (k == g) where
-  at : (b : Bool) → free_of n (cond b None (Some k)) ≡ (b || n k)
-  at true = refl
-  at false = refl
+free_left n g (Some k) = grind (arith, common_steps, nat_tests, cases_Bool (n k))
 
 -- who stands on a leaf once a grant is gone stood there before, and is another
 pub still_there : (g k : ℕ) (o : Option ℕ) → left_by g o ≡ Some k → (o ≡ Some k) × (k ≢ g)
-still_there g k None e = absurd (none_is_some k e)
-still_there g k (Some h) e = ⊎_elim
-    (λ same. absurd (none_is_some k (sym (cond-true (h == g) None (Some h) (eq-eqb h g same)) ∙ e)))
-    (λ ne.
-    let is : ◌≡◌ {A = Option ℕ} (Some h) (Some k) = sym (cond-false (h == g) None (Some h) (ne_eqb h g ne)) ∙ e in
-    let kh : k ≡ h = some_is k h (sym is) in
-    (is, λ kg. ne (sym kh ∙ kg)))
-    (cases_eq h g)
+still_there g k None e = cc
+still_there g k (Some h) e = ⊎_elim (λ same. grind (arith, common_steps, nat_tests)) (λ ne. grind (arith, common_steps, nat_tests)) (cases_eq h g)
 
 pub given : (x : Tree) (g : ℕ) → Settled x → gives codes x g ≡ true → Given codes x g
 given x g ok does = record {

@@ -7,13 +7,14 @@ use crate::GrantSet;
 
 // No call asks anything: its equations hold in every state. The laws speak of the sound ones.
 // Every making of a pool ensures a sound state, and the laws say that a take and a give keep it so.
+// A take and a give answer whether they were obeyed, by a bool as a set's insert does: callers ask no more.
 pub trait RadioPool {
-    // What the pool's states are, and what they mean.
+    // What the pool's states are, and what they mean. No Model: a Model's value is data, and states have functions in them.
     ghost radio: { Radio };
 
     ghost state: { Self → radio.State };
 
-    // The size of a grant, or 0 where it is not held.
+    // The size of a grant, or 0 where it is not held. No Option: the rules answer a size, 0 for none.
     fn held(&self, grant: u8) -> u8
         ensures { result ≡ radio.holds (state self.now) grant };
 

@@ -1,17 +1,17 @@
 // A pool that shares out a rate: the sizes held together never pass its capacity.
-ghost use Rattle.std.specs.Prelude.{◌≡◌, ◌*◌, ◌≤◌};
+ghost use Rattle.std.specs.Prelude.{◌≡◌};
 ghost use Rattle.admission.specs.Member.{member};
 ghost use Rattle.admission.specs.Rate.{rates, fresh, load};
 ghost use Rattle.admission.specs.Views.{rate_of};
 ghost use Rattle.admission.specs.RateLaws;
 
-use crate::sizes::size_of_grant;
+use crate::sizes::Sizes;
 use crate::{GrantSet, RadioPool};
 
 #[derive(Clone, Copy)]
 pub struct RatePool {
     capacity: u16,
-    sizes: [u8; 64],
+    sizes: Sizes,
 }
 
 impl RatePool {
@@ -21,23 +21,19 @@ impl RatePool {
         ensures sound { rates.sound (rate_of result) }
     {
         RatePool {
-            capacity: capacity.max(1).min(4096),
-            sizes: [0; 64],
+            capacity: capacity.clamp(1, 4096),
+            sizes: Sizes::empty(),
         }
     }
 
     // The sizes that are not given back, added up.
-    fn load(&self, given: &GrantSet) -> u32
-        ensures value { result ≡ load (rate_of self.now) (member given.now) }
-        ensures bound { result ≤ 64 * 255 }
+    fn load(&self, given: &GrantSet) -> u16
+        ensures { result ≡ load (rate_of self.now) (member given.now) }
     {
-        let mut load: u32 = 0;
-        for grant in 0..64u8 {
-            if !given.contains(grant) {
-                load += self.sizes[grant as usize] as u32;
-            }
-        }
-        load
+        (0..64u8)
+            .filter(|&grant| !given.contains(grant))
+            .map(|grant| u16::from(self.sizes.of(grant)))
+            .sum()
     }
 }
 
@@ -53,26 +49,24 @@ impl RadioPool for RatePool {
     ghost given = { RateLaws.given };
 
     fn held(&self, grant: u8) -> u8 {
-        size_of_grant(&self.sizes, grant)
+        self.sizes.of(grant)
     }
 
     fn room(&self, given: &GrantSet, size: u8) -> bool {
-        0 < size && size <= 64 && self.load(given) + size as u32 <= self.capacity as u32
+        0 < size
+            && size <= 64
+            && u32::from(self.load(given)) + u32::from(size) <= u32::from(self.capacity)
     }
 
     fn take(&mut self, grant: u8, size: u8) -> bool {
-        if grant >= 64 || self.held(grant) != 0 || !self.room(&GrantSet::empty(), size) {
+        if !self.sizes.may_take(grant) || !self.room(&GrantSet::empty(), size) {
             return false;
         }
-        self.sizes[grant as usize] = size;
+        self.sizes.take(grant, size);
         true
     }
 
     fn give(&mut self, grant: u8) -> bool {
-        if size_of_grant(&self.sizes, grant) == 0 {
-            return false;
-        }
-        self.sizes[grant as usize] = 0;
-        true
+        self.sizes.give(grant)
     }
 }

@@ -1,46 +1,54 @@
 // The OVSF code tree of a cell: each grant stands on a block of leaves, the codes of spreading factor 256.
-ghost use Rattle.std.specs.Prelude.{◌≡◌, ◌+◌, ◌*◌, ◌/◌, ◌<◌, ◌≤◌, true, IfSome, Some, Decides};
+ghost use Rattle.std.specs.Prelude.{◌≡◌, ℕ, ◌+◌, ◌*◌, ◌<◌, ◌≤◌, true, IfSome, option_map, Some, None, Decides, slice_index_or};
+ghost use Rattle.std.specs.List.{list_all};
 ghost use Rattle.rules.specs.Radio.{takes, gives, after_take, after_give};
 ghost use Rattle.admission.specs.Member.{member};
-ghost use Rattle.admission.specs.Ranges.{all_from};
-ghost use Rattle.admission.specs.Tree.{rounded, free_leaves, lowest, block_for, moved_in, moved_out, codes, bare};
+ghost use Rattle.admission.specs.Tree.{rounded, free_of, free_leaves, lowest, block_for, leaves_of, InTree, moved_to, moved_out, codes, bare};
 ghost use Rattle.admission.specs.TreeRules.{RoomFor, Placed, Cleared};
-ghost use Rattle.admission.specs.Views.{tree_of};
 ghost use Rattle.admission.specs.TreeLaws;
 
-use crate::sizes::size_of_grant;
+use crate::sizes::Sizes;
 use crate::{GrantSet, RadioPool};
+use std::ops::Range;
 
-const LEAVES: usize = 256;
-
-// What a free leaf has in place of a grant number, which is smaller.
-const NOBODY: u8 = 64;
-
+// A struct with a ghost field reads the imports above it. So tree_of, which names it, is imported in the blocks below.
 #[derive(Clone, Copy)]
 pub struct CodeTree {
-    owners: [u8; 256],
-    sizes: [u8; 64],
+    // The grant that stands on each leaf.
+    owners: [Option<u8>; 256],
+    sizes: Sizes,
+    ghost numbers: { (leaf grant : ℕ) → slice_index_or owners leaf None ≡ Some grant → grant < 64 },
 }
 
 // A size rounded up to a power of two.
 fn width(size: u8) -> usize
     requires { (0 < size) × (size ≤ 64) }
     ensures value { result ≡ rounded size }
-    ensures fills { 256 / result * result ≡ 256 }
     ensures some { 0 < result }
 {
-    (size as usize).next_power_of_two()
+    usize::from(size).next_power_of_two()
+}
+
+// Whether each leaf is free with the grants of the admission set given back.
+fn all_free(leaves: &[Option<u8>], given: &GrantSet) -> bool
+    ensures { result ≡ list_all (free_of (member given.now)) leaves.now }
+{
+    leaves
+        .iter()
+        .all(|owner| owner.is_none_or(|grant| given.contains(grant)))
 }
 
 impl CodeTree {
+    ghost use Rattle.admission.specs.Views.{tree_of};
+
     // A tree with nothing taken.
     pub fn new() -> Self
         ensures state { tree_of result ≡ bare }
         ensures sound { codes.sound (tree_of result) }
     {
         CodeTree {
-            owners: [NOBODY; 256],
-            sizes: [0; 64],
+            owners: [None; 256],
+            sizes: Sizes::empty(),
         }
     }
 
@@ -48,48 +56,27 @@ impl CodeTree {
     pub fn owner(&self, leaf: u8) -> Option<u8>
         ensures { result ≡ (tree_of self.now).owner leaf }
     {
-        let owner = self.owners[leaf as usize];
-        if owner < NOBODY { Some(owner) } else { None }
+        self.owners[usize::from(leaf)]
     }
 
-    fn leaf_free(&self, leaf: usize, given: &GrantSet) -> bool
-        requires { leaf < 256 }
-        ensures { result ≡ free_leaves (tree_of self.now) (member given.now) leaf }
+    // The leaves of the lowest free block: blocks of one width tile the tree, and the first begins at leaf 0.
+    fn lowest_block(&self, width: usize, given: &GrantSet) -> Option<Range<usize>>
+        requires { 0 < width }
+        ensures value { result ≡ option_map (leaves_of width) (lowest (free_leaves (tree_of self.now) (member given.now)) width) }
+        ensures within { IfSome result InTree }
     {
-        let owner = self.owners[leaf];
-        owner >= NOBODY || given.contains(owner)
+        let block = self
+            .owners
+            .chunks_exact(width)
+            .position(|block| all_free(block, given))?;
+        let start = block * width;
+        Some(start..start + width)
     }
 
-    fn block_free(&self, start: usize, width: usize, given: &GrantSet) -> bool
-        requires { start + width ≤ 256 }
-        ensures { result ≡ all_from (free_leaves (tree_of self.now) (member given.now)) start width }
-    {
-        for leaf in start..start + width {
-            if !self.leaf_free(leaf, given) {
-                return false;
-            }
-        }
-        true
-    }
-
-    // The lowest free block: blocks of one width tile the tree, and the first begins at leaf 0.
-    fn lowest_block(&self, width: usize, given: &GrantSet) -> Option<usize>
-        requires { (0 < width) × (256 / width * width ≡ 256) }
-        ensures value { result ≡ lowest (free_leaves (tree_of self.now) (member given.now)) width }
-        ensures within { IfSome result (λ j. j * width + width ≤ 256) }
-    {
-        for block in 0..LEAVES / width {
-            if self.block_free(block * width, width, given) {
-                return Some(block);
-            }
-        }
-        None
-    }
-
-    // The block that a size takes with the grants of the admission set given back.
-    fn block_for(&self, size: u8, given: &GrantSet) -> Option<usize>
-        ensures value { result ≡ block_for (free_leaves (tree_of self.now) (member given.now)) size }
-        ensures within { IfSome result (λ j. (0 < size) × (size ≤ 64) × (j * rounded size + rounded size ≤ 256)) }
+    // The leaves that a size takes with the grants of the admission set given back.
+    fn block_for(&self, size: u8, given: &GrantSet) -> Option<Range<usize>>
+        ensures value { result ≡ option_map (leaves_of (rounded size)) (block_for (free_leaves (tree_of self.now) (member given.now)) size) }
+        ensures within { IfSome result InTree }
     {
         if size == 0 || size > 64 {
             return None;
@@ -97,16 +84,13 @@ impl CodeTree {
         self.lowest_block(width(size), given)
     }
 
-    // Stands a grant on the leaves of a block.
-    fn move_in(&mut self, grant: u8, width: usize, block: usize)
-        requires { (grant < 64) × (block * width + width ≤ 256) }
-        ensures owner { (tree_of self.new).owner ≡ moved_in (tree_of self.old).owner grant width (Some block) }
+    // Stands a grant on leaves.
+    fn move_in(&mut self, grant: u8, leaves: Range<usize>)
+        requires { (grant < 64) × InTree leaves }
+        ensures owner { (tree_of self.new).owner ≡ moved_to leaves grant (tree_of self.old).owner }
         ensures sizes { self.new.sizes ≡ self.old.sizes }
     {
-        let start = block * width;
-        for leaf in start..start + width {
-            self.owners[leaf] = grant;
-        }
+        self.owners[leaves].fill(Some(grant));
     }
 
     // Clears the leaves of a grant.
@@ -114,15 +98,17 @@ impl CodeTree {
         ensures owner { (tree_of self.new).owner ≡ moved_out (tree_of self.old).owner grant }
         ensures sizes { self.new.sizes ≡ self.old.sizes }
     {
-        for leaf in 0..LEAVES {
-            if self.owners[leaf] == grant {
-                self.owners[leaf] = NOBODY;
+        for owner in &mut self.owners {
+            if *owner == Some(grant) {
+                *owner = None;
             }
         }
     }
 }
 
 impl RadioPool for CodeTree {
+    ghost use Rattle.admission.specs.Views.{tree_of};
+
     ghost radio = { codes };
 
     ghost state = { tree_of };
@@ -134,7 +120,7 @@ impl RadioPool for CodeTree {
     ghost given = { TreeLaws.given };
 
     fn held(&self, grant: u8) -> u8 {
-        size_of_grant(&self.sizes, grant)
+        self.sizes.of(grant)
     }
 
     fn room(&self, given: &GrantSet, size: u8) -> bool
@@ -149,14 +135,14 @@ impl RadioPool for CodeTree {
         ensures state { tree_of self.new ≡ after_take codes (tree_of self.old) grant size }
         ensures rule { result ≡ true → Placed (tree_of self.old) (tree_of self.new) grant size }
     {
-        if grant >= 64 || self.held(grant) != 0 {
+        if !self.sizes.may_take(grant) {
             return false;
         }
-        let Some(block) = self.block_for(size, &GrantSet::empty()) else {
+        let Some(leaves) = self.block_for(size, &GrantSet::empty()) else {
             return false;
         };
-        self.move_in(grant, width(size), block);
-        self.sizes[grant as usize] = size;
+        self.move_in(grant, leaves);
+        self.sizes.take(grant, size);
         true
     }
 
@@ -165,11 +151,10 @@ impl RadioPool for CodeTree {
         ensures state { tree_of self.new ≡ after_give codes (tree_of self.old) grant }
         ensures rule { result ≡ true → Cleared (tree_of self.old) (tree_of self.new) grant }
     {
-        if size_of_grant(&self.sizes, grant) == 0 {
+        if !self.sizes.give(grant) {
             return false;
         }
         self.move_out(grant);
-        self.sizes[grant as usize] = 0;
         true
     }
 }

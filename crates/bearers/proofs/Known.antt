@@ -103,7 +103,7 @@ new_append bs q (a ∷ qs) =
     let f = length_kept (fresh bs a) a (filter (fresh bs) (qs ++ q ∷ [])) in
     omega arith
 
-at_most_one : (b : Bool) → cond {A = ℕ} b 1 0 ≤ 1
+pub at_most_one : (b : Bool) → cond {A = ℕ} b 1 0 ≤ 1
 at_most_one true = omega arith
 at_most_one false = omega arith
 

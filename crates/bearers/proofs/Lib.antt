@@ -1,4 +1,3 @@
-pub mod Searches
 pub mod Firsts
 pub mod Waiting
 pub mod Standing
@@ -7,4 +6,6 @@ pub mod Ranges
 pub mod Spots
 pub mod Keeps
 pub mod Mapped
+pub mod Anys
 pub mod Frees
+pub mod Numbered

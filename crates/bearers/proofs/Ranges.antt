@@ -1,5 +1,5 @@
 -- Grant numbers and levels stay in their ranges.
-use Rattle.std.proofs.Common.{◌≡◌, ℕ, zero, suc, ◌<◌, ◌≤◌, Bool, true, false, cond, List, [], ◌∷◌, ◌++◌, length, get_or, filter, refl, arith}
+use Rattle.std.proofs.Common.{◌≡◌, ℕ, zero, suc, ◌<◌, Bool, true, false, cond, List, [], ◌∷◌, ◌++◌, length, get_or, refl, arith}
 use Rattle.bearers.specs.Order.{level_good, bearer_good, bearers_good, requests_good}
 use Rattle.rules.specs.Tables.{of_rab, asks_for, before, with_bearer, without_bearer, without_request}
 use Rattle.rules.specs.declared.bearer.Bearer.{Bearer}
@@ -35,15 +35,6 @@ requests_append q [] h g = and_from (level_good q.priority) true h refl
 requests_append q (a ∷ qs) h g =
     let p = and_parts (level_good a.priority) (requests_good qs) g in
     and_from (level_good a.priority) (requests_good (qs ++ q ∷ [])) p.0 (requests_append q qs h p.1)
-
-kept_step : {X : Type 0} (x : X) (ks : List X) (n : ℕ) (t : Bool) → length ks ≤ n → length (cond t (x ∷ ks) ks) ≤ suc n
-kept_step x ks n true l = omega arith
-kept_step x ks n false l = omega arith
-
--- what a test keeps is no longer than the list
-pub kept_short : {X : Type 0} (test : X → Bool) (xs : List X) → length (filter test xs) ≤ length xs
-kept_short test [] = omega arith
-kept_short test (x ∷ xs) = kept_step x (filter test xs) (length xs) (test x) (kept_short test xs)
 
 -- each of a table is in range
 pub good_at : (bs : List Bearer) (i : ℕ) (d : Bearer) → bearers_good bs ≡ true → i < length bs → bearer_good (get_or bs i d) ≡ true

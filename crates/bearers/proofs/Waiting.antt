@@ -60,6 +60,10 @@ apart_step : (p r : ℕ) (q : Request) (qs : List Request) (t : Bool) → Apart 
 apart_step p r q qs true ok rest = ok.1
 apart_step p r q qs false ok rest = (none_without p r q.place q.rab qs ok.1 ok.0, rest)
 
+-- nor does the RAB whose request has left
+pub gone_without : (p r : ℕ) (qs : List Request) → Apart qs → waits_as p r (without_request p r qs) ≡ None
+gone_without p r qs ok = waits_without p r p r qs ok ∙ grind (arith, nat_tests)
+
 pub apart_without : (p r : ℕ) (qs : List Request) → Apart qs → Apart (without_request p r qs)
 apart_without p r [] ok = tt
 apart_without p r (q ∷ qs) ok = apart_step p r q qs (asks_for p r q) ok (apart_without p r qs ok.1)

@@ -1,5 +1,5 @@
 pub mod Order
-pub mod Search
 pub mod Spot
 pub mod View
 pub mod Places
+pub mod Closures

@@ -5,25 +5,9 @@ use rules::connection::Connection;
 
 mod places;
 
+// No Model: with Copy it wants an `inverse` too, and the clauses see the list by one word, `connections_of`.
 #[derive(Clone, Copy)]
 pub struct Connections {
     all: [Connection; 16],
     ghost wide: { length all ≡ 16 },
-}
-
-// A kind of connection that a UE may have.
-#[derive(Clone, Copy)]
-pub enum Which {
-    Any,
-    OfDomain(u8),
-    Relocating,
-    Unprepared,
-}
-
-// What becomes of a UE's connections all at once.
-#[derive(Clone, Copy)]
-pub enum Change {
-    Prepare,
-    Execute,
-    Reopen,
 }

@@ -2,9 +2,10 @@
 #![tactic(auto)]
 
 mod connections;
+mod slots;
 mod tables;
 mod tickets;
 
-pub use connections::{Change, Connections, Which};
+pub use connections::Connections;
 pub use tables::RabTables;
 pub use tickets::Tickets;

@@ -8,7 +8,8 @@ use rules::bearer::{Bearer, Request};
 mod changes;
 mod lookups;
 
-// Room for 64 of each is made once: no later call wants memory.
+// Room for 64 of each is made once on the heap: no later call wants memory, as an insert into a BTreeMap would,
+// and the struct stays small on the stack, as with two ArrayVecs of 64 it would not.
 #[derive(Drop)]
 pub struct RabTables {
     bearers: Vec<Bearer>,

@@ -6,6 +6,7 @@ use rules::connection::TicketRecord;
 mod out;
 
 // What is kept of each ticket that is out.
+// No Model: with Copy it wants an `inverse` too, and the clauses see the list by one word, `tickets_of`.
 #[derive(Clone, Copy)]
 pub struct Tickets {
     all: [Option<TicketRecord>; 16],

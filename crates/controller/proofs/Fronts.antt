@@ -1,5 +1,7 @@
 -- The search for the shortest front of the candidates, one RAB or one level further.
-use Rattle.std.proofs.Common.{◌≡◌, ℕ, zero, suc, ◌+◌, ◌-◌, ◌<◌, ◌≤◌, Bool, true, false, cond, leb, List, [], ◌∷◌, ◌++◌, length, get_or, drop, Some, None, filter, Option, sym, refl, ap, ◌∙◌, arith}
+use Rattle.std.proofs.Common.{◌≡◌, ℕ, zero, suc, ◌+◌, ◌-◌, ◌<◌, ◌≤◌, Bool, true, false, cond, leb, ltb, List, [], ◌∷◌, ◌++◌, length, get_or, drop, Some, None, filter, Option, sym, refl, ap, ◌∙◌, subst, arith}
+use Rattle.admission.specs.Member.{inserted}
+use Rattle.bearers.specs.Order.{bearer_good, level_good}
 use Rattle.controller.specs.Chosen.{front_for}
 use Rattle.rules.specs.Grants.{added}
 use Rattle.rules.specs.Preemption.{own, own_grant, and_also, candidate, candidates_from, candidates, shortest_front}
@@ -8,6 +10,7 @@ use Rattle.rules.specs.State.{State}
 use Rattle.rules.specs.declared.bearer.Bearer.{Bearer}
 use Rattle.rules.specs.declared.bearer.Request.{Request}
 use Rattle.std.proofs.lemmas.List.{at_drop_more, at_drop_all, append_assoc, length-append}
+use Rattle.std.proofs.lemmas.Bool.{and_parts}
 use Rattle.std.proofs.lemmas.Bool.Decides.{nat_tests}
 
 -- some in front of what a search finds
@@ -43,9 +46,9 @@ module _ {m : Radio} (q : Request) (x : State m) (l : ℕ) where
   abbrev pub left : List Bearer → List Bearer
   left bs = filter (candidate q x l) bs ++ candidates_from (l - 1) q x
 
-  pub level_left : 0 < l → candidates_from l q x ≡ left x.bearers
-  level_left h = let e : l ≡ suc (l - 1) = omega (arith, h) in
-      ap (λ k. candidates_from k q x) e ∙ ap (λ k. filter (candidate q x k) x.bearers ++ candidates_from (l - 1) q x) (sym e)
+  pub level_left : {bs : List Bearer} → 0 < l → x.bearers ≡ bs → candidates_from l q x ≡ left bs
+  level_left h it = let e : l ≡ suc (l - 1) = omega (arith, h) in
+      ap (λ k. candidates_from k q x) e ∙ ap (λ k. filter (candidate q x k) x.bearers ++ candidates_from (l - 1) q x) (sym e) ∙ ap left it
 
   left_at : (bs : List Bearer) (i : ℕ) (d : Bearer) (t : Bool) → i < length bs → candidate q x l (get_or bs i d) ≡ t →
       left (drop i bs) ≡ cond t (get_or bs i d ∷ filter (candidate q x l) (drop (i + 1) bs)) (filter (candidate q x l) (drop (i + 1) bs)) ++ candidates_from (l - 1) q x
@@ -68,19 +71,6 @@ module _ {m : Radio} (q : Request) (x : State m) (l : ℕ) where
 -- all candidates, as one name
 unfoldable pub all_of : {m : Radio} → Request → State m → List Bearer
 all_of q x = candidates q x
-
--- before the first level: none chosen, all to come
-pub begins : {m : Radio} (q : Request) (x : State m) (n : ℕ → Bool) (cs : List Bearer) → cs ≡ [] → n ≡ own_grant (own q x) →
-    (cs ++ candidates_from 14 q x ≡ all_of q x) × (in_front cs (shortest_front x n q.size (candidates_from 14 q x)) ≡ front_for q x)
-unfolding all_of front_for
-begins q x n cs none own' = (
-  ap (λ vs. vs ++ candidates q x) none,
-  ap (λ vs. in_front vs (shortest_front x n q.size (candidates q x))) none ∙ front_nothing (shortest_front x n q.size (candidates q x)) ∙ ap (λ k. shortest_front x k q.size (candidates q x)) own',
-)
-
--- after the last level: no front gave room
-pub ends : {m : Radio} (q : Request) (x : State m) (n : ℕ → Bool) (cs : List Bearer) (l : ℕ) → l ≡ 0 → in_front cs (shortest_front x n q.size (candidates_from l q x)) ≡ front_for q x → None ≡ front_for q x
-ends q x n cs l e h = ap (λ k. in_front cs (shortest_front x n q.size (candidates_from k q x))) (sym e) ∙ h
 
 -- there are no more candidates than set-up RABs: each is of one level
 module _ {m : Radio} (q : Request) (x : State m) where
@@ -121,39 +111,64 @@ module _ {m : Radio} (q : Request) (x : State m) where
   unfolding all_of
   few_candidates = let a = levels_count 14 in let b = all_count 14 x.bearers in omega (arith, a, b)
 
+-- a search under way: those chosen, the set that counts as given back, and the candidates that are left
+pub record Front {m : Radio} (q : Request) (x : State m) (cs : List Bearer) (n : ℕ → Bool) (rest : List Bearer) : Type 0 where
+  -- together they are all candidates
+  pub split : cs ++ rest ≡ all_of q x
+  -- what is left gives what the whole gives
+  pub finds : in_front cs (shortest_front x n q.size rest) ≡ front_for q x
+
+module _ {m : Radio} (q : Request) (x : State m) where
+  -- the same candidates under another name
+  pub front_as : {cs rest rest' : List Bearer} {n : ℕ → Bool} → rest ≡ rest' → Front q x cs n rest → Front q x cs n rest'
+  front_as {cs} {rest} {rest'} {n} e f = subst (λ vs. Front q x cs n vs) e f
+
+  -- before the first level: none chosen, all to come
+  pub begins : (n : ℕ → Bool) (cs : List Bearer) → cs ≡ [] → n ≡ own_grant (own q x) → Front q x cs n (candidates_from 14 q x)
+  unfolding all_of front_for
+  begins n cs none own' = record {
+    split = ap (λ vs. vs ++ candidates q x) none;
+    finds = ap (λ vs. in_front vs (shortest_front x n q.size (candidates q x))) none ∙ front_nothing (shortest_front x n q.size (candidates q x)) ∙ ap (λ k. shortest_front x k q.size (candidates q x)) own';
+  }
+
+  -- after the last level: no front gave room
+  pub ends : {cs : List Bearer} {n : ℕ → Bool} (l : ℕ) → l ≡ 0 → Front q x cs n (candidates_from l q x) → None ≡ front_for q x
+  ends {cs} {n} l e f = ap (λ k. in_front cs (shortest_front x n q.size (candidates_from k q x))) (sym e) ∙ f.finds
+
+-- a good RAB's grant goes into the set
+pub grown : (n n' : ℕ → Bool) (b : Bearer) → bearer_good b ≡ true → n' ≡ inserted n b.grant → n' ≡ added n b.grant
+grown n n' b good i = i ∙ ap (λ t. cond t (added n b.grant) n) (and_parts (ltb b.grant 64) (level_good b.priority) good).0
+
 -- one RAB of the table looked at
-module _ {m : Radio} (q : Request) (x : State m) (l i : ℕ) (bs : List Bearer) (d : Bearer) (h : i < length bs) (cs : List Bearer) (n : ℕ → Bool)
-    (split : cs ++ left q x l (drop i bs) ≡ all_of q x) (rest : in_front cs (shortest_front x n q.size (left q x l (drop i bs))) ≡ front_for q x) where
+module _ {m : Radio} (q : Request) (x : State m) (l i : ℕ) (bs : List Bearer) (d : Bearer) (h : i < length bs) {cs : List Bearer} {n : ℕ → Bool} (f : Front q x cs n (left q x l (drop i bs))) where
   -- it is no candidate
-  pub passed_by : candidate q x l (get_or bs i d) ≡ false →
-      (cs ++ left q x l (drop (i + 1) bs) ≡ all_of q x) × (in_front cs (shortest_front x n q.size (left q x l (drop (i + 1) bs))) ≡ front_for q x)
-  passed_by e =
-      let s = left_pass q x l bs i d h e in
-      (ap (λ vs. cs ++ vs) (sym s) ∙ split, ap (λ vs. in_front cs (shortest_front x n q.size vs)) (sym s) ∙ rest)
+  pub passed_by : candidate q x l (get_or bs i d) ≡ false → Front q x cs n (left q x l (drop (i + 1) bs))
+  passed_by e = front_as q x (left_pass q x l bs i d h e) f
 
-  -- there is a place for it
-  pub placed : candidate q x l (get_or bs i d) ≡ true → length x.bearers ≤ 64 → length cs < 64
-  placed e few =
-      let s : cs ++ get_or bs i d ∷ left q x l (drop (i + 1) bs) ≡ all_of q x = ap (λ vs. cs ++ vs) (sym (left_next q x l bs i d h e)) ∙ split in
-      let k = few_candidates q x in
-      let a = length-append cs (get_or bs i d ∷ left q x l (drop (i + 1) bs)) in
-      omega (arith, ap length s, k, few, a)
+  module _ (on : candidate q x l (get_or bs i d) ≡ true) where
+    next : Front q x cs n (get_or bs i d ∷ left q x l (drop (i + 1) bs))
+    next = front_as q x (left_next q x l bs i d h on) f
 
-  module _ (e : candidate q x l (get_or bs i d) ≡ true) (cs' : List Bearer) (n' : ℕ → Bool) (more : cs' ≡ cs ++ get_or bs i d ∷ []) (grown : n' ≡ added n (get_or bs i d).grant) where
-    after : in_front cs (shortest_front x n q.size (get_or bs i d ∷ left q x l (drop (i + 1) bs))) ≡ front_for q x
-    after = ap (λ vs. in_front cs (shortest_front x n q.size vs)) (sym (left_next q x l bs i d h e)) ∙ rest
+    -- there is a place for it
+    pub placed : length x.bearers ≤ 64 → length cs < 64
+    placed few =
+        let k = few_candidates q x in
+        let a = length-append cs (get_or bs i d ∷ left q x l (drop (i + 1) bs)) in
+        omega (arith, ap length next.split, k, few, a)
 
-    -- it is added, and gives no room yet
-    pub added_on : m.admits x.pool n' q.size ≡ false →
-        (cs' ++ left q x l (drop (i + 1) bs) ≡ all_of q x) × (in_front cs' (shortest_front x n' q.size (left q x l (drop (i + 1) bs))) ≡ front_for q x)
-    added_on none =
-        let f = front_more x q.size n cs (get_or bs i d) (left q x l (drop (i + 1) bs)) (ap (λ k. m.admits x.pool k q.size) (sym grown) ∙ none) in (
-          ap (λ vs. vs ++ left q x l (drop (i + 1) bs)) more ∙ append_assoc cs (get_or bs i d ∷ []) (left q x l (drop (i + 1) bs)) ∙ ap (λ vs. cs ++ vs) (sym (left_next q x l bs i d h e)) ∙ split,
-          ap (λ vs. in_front vs (shortest_front x n' q.size (left q x l (drop (i + 1) bs)))) more ∙ ap (λ k. in_front (cs ++ get_or bs i d ∷ []) (shortest_front x k q.size (left q x l (drop (i + 1) bs)))) grown ∙ sym f ∙ after,
-        )
+    module _ (cs' : List Bearer) (n' : ℕ → Bool) (more : cs' ≡ cs ++ get_or bs i d ∷ []) (grown' : n' ≡ added n (get_or bs i d).grant) where
+      -- it is added, and gives no room yet
+      pub added_on : m.admits x.pool n' q.size ≡ false → Front q x cs' n' (left q x l (drop (i + 1) bs))
+      added_on none =
+          let rest = left q x l (drop (i + 1) bs) in
+          let a = front_more x q.size n cs (get_or bs i d) rest (ap (λ k. m.admits x.pool k q.size) (sym grown') ∙ none) in
+          record {
+            split = ap (λ vs. vs ++ rest) more ∙ append_assoc cs (get_or bs i d ∷ []) rest ∙ next.split;
+            finds = ap (λ vs. in_front vs (shortest_front x n' q.size rest)) more ∙ ap (λ k. in_front (cs ++ get_or bs i d ∷ []) (shortest_front x k q.size rest)) grown' ∙ sym a ∙ next.finds;
+          }
 
-    -- it is added, and gives room: the search is at its end
-    pub room_found : m.admits x.pool n' q.size ≡ true → Some cs' ≡ front_for q x
-    room_found some =
-        let f = front_here x q.size n cs (get_or bs i d) (left q x l (drop (i + 1) bs)) (ap (λ k. m.admits x.pool k q.size) (sym grown) ∙ some) in
-        ap Some more ∙ sym f ∙ after
+      -- it is added, and gives room: the search is at its end
+      pub room_found : m.admits x.pool n' q.size ≡ true → Some cs' ≡ front_for q x
+      room_found some =
+          let a = front_here x q.size n cs (get_or bs i d) (left q x l (drop (i + 1) bs)) (ap (λ k. m.admits x.pool k q.size) (sym grown') ∙ some) in
+          ap Some more ∙ sym a ∙ next.finds

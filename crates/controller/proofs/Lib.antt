@@ -2,12 +2,12 @@ pub mod Fronts
 pub mod Gaves
 pub mod Readies
 pub mod Asks
-pub mod Dues
+pub mod Nexts
 pub mod Served
 pub mod Supersedes
-pub mod ByKind
+pub mod Turns
 pub mod Notified
-pub mod Cancels
 pub mod Leaving
 mod Waiters
 mod Obeys
+mod Domains

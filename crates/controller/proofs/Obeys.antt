@@ -6,9 +6,10 @@ use Rattle.bearers.specs.View.{bearers_of, queue_of}
 use Rattle.bounds.specs.Weights.{Small}
 use Rattle.controller.specs.Gave.{Gave}
 use Rattle.controller.specs.Listed.{listed}
-use Rattle.controller.specs.Page.{page, write, write_all}
+use Rattle.controller.specs.Page.{page, page_of, write, write_all}
 use Rattle.controller.specs.View.{view}
 use Rattle.controller.specs.declared.controller.Controller.{Controller}
+use Rattle.controller.specs.declared.writing.Sheet.{Sheet}
 use Rattle.rules.specs.Radio.{Radio}
 use Rattle.rules.specs.State.{State, Outcome}
 use Rattle.rules.specs.declared.report.Report.{Report}
@@ -49,12 +50,12 @@ pub record Obeyed {m : Radio} (o : Outcome m) (y : State m) (k : ℕ) (before af
   pub count : k ≡ length o.reports
   pub list : after ≡ listed o.reports before
 
-pub obeyed : {m : Radio} {o : Outcome m} {y : State m} {k : ℕ} {before after : List Report} →
-    length o.reports ≤ length before → Gave o y (page before 0) (page after k) → Obeyed o y k before after
-obeyed {m} {o} {y} {k} {before} {after} l a =
-    let all = a.page ∙ written o.reports [] before l in
+pub obeyed : {m : Radio} {o : Outcome m} {y : State m} {k : ℕ} {before : List Report} {s s₁ : Sheet} →
+    length o.reports ≤ length before → page_of s ≡ page before 0 → Gave o y s s₁ → k ≡ s₁.count → Obeyed o y k before s₁.reports.now
+obeyed {m} {o} {y} {k} {before} {s} {s₁} l new a e =
+    let all = a.wrote.page ∙ ap (write_all o.reports) new ∙ written o.reports [] before l in
     let none : 0 + length o.reports ≡ length o.reports = omega arith in
-    record { state = a.state; count = ap (λ p. p.count) all ∙ none; list = ap (λ p. p.list) all }
+    record { state = a.state; count = e ∙ ap (λ p. p.count) all ∙ none; list = ap (λ p. p.list) all }
 
 -- the tables of a controller are of at most their sizes
 pub small : {P : Type 0} (m : Radio) (s : P → m.State) (c : Controller P) → Small (view m s c)
@@ -76,14 +77,14 @@ pub record Answers {m : Radio} {A : Type 0} (says : ℕ → A) (f : Option Refus
 pub answers : {m : Radio} {A : Type 0} (says : ℕ → A) {o : Outcome m} {x y : State m} {k : ℕ} {before after : List Report} (f : Option Refusal) → f ≡ None →
     Obeyed o y k before after → Answers says f o x y k before after
 answers says None e a = record { answer = ap (λ k. Ok (says k)) a.count; state = a.state; list = a.list }
-answers says (Some r) e a = let z : ◌≡◌ {A = ℕ} 0 1 = cc in absurd (omega arith)
+answers says (Some r) e a = cc
 
 -- a call that is not refused has a list of 288 places or more
 pub long_list : (n : ℕ) (f : Option Refusal) → unless_short n f ≡ None → 288 ≤ n
 long_list n f e = by_test (short n) refl e
   where
     by_test : (t : Bool) → short n ≡ t → cond t (Some (refusal reason.ShortList 0)) f ≡ None → 288 ≤ n
-    by_test true s e = let z : ◌≡◌ {A = ℕ} 0 1 = cc in absurd (omega arith)
+    by_test true s e = cc
     by_test false s e = ltb-false n 288 s
 
 -- a frame whose message nothing stands against

@@ -38,7 +38,7 @@ found_step p r a b bs true e f ih = let s : a ≡ b = cc in ap (of_rab p r) (sym
 found_step p r a b bs false e f ih = ih f
 
 found_of : (p r : ℕ) (b : Bearer) (bs : List Bearer) → set_up_as p r bs ≡ Some b → of_rab p r b ≡ true
-found_of p r b [] e = let z : ◌≡◌ {A = ℕ} 0 1 = cc in absurd (omega arith)
+found_of p r b [] e = cc
 found_of p r b (a ∷ bs) e = found_step p r a b bs (of_rab p r a) refl e (found_of p r b bs)
 
 pub found_named : (p r : ℕ) (b : Bearer) (bs : List Bearer) → set_up_as p r bs ≡ Some b → (b.place ≡ p) × (b.rab ≡ r)

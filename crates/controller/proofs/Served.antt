@@ -1,7 +1,7 @@
 -- Who is served next waits; it leaves the queue, and may be set up.
-use Rattle.std.proofs.Common.{◌≡◌, ℕ, zero, suc, ◌+◌, Bool, true, false, cond, ◌&&◌, ◌||◌, eqb, ltb, leb, ◌⊎◌, List, [], ◌∷◌, length, Some, None, filter, Option, sym, refl, ap, ◌∙◌, inl, inr, ⊎_elim, arith}
+use Rattle.std.proofs.Common.{◌≡◌, ℕ, zero, suc, ◌+◌, ◌<◌, Bool, true, false, cond, ◌||◌, ltb, leb, ◌⊎◌, List, [], ◌∷◌, length, get_or, Some, None, filter, Option, sym, refl, ap, ◌∙◌, inl, inr, ⊎_elim, arith}
 use Rattle.bearers.proofs.Known.{one_fewer}
-use Rattle.bearers.proofs.Waiting.{apart_from, waits_without}
+use Rattle.bearers.proofs.Waiting.{apart_from, gone_without}
 use Rattle.bearers.specs.Order.{level_good, bearers_good, requests_good}
 use Rattle.controller.proofs.Readies.{Ordered}
 use Rattle.controller.specs.Turn.{Waitable}
@@ -30,7 +30,7 @@ ahead_in a q as' (Some w) f e = at (leb a.priority.level w.priority.level) e
     at false h = inr (f q h)
 
 first_in : (qs : List Request) (q : Request) → first_by_level qs ≡ Some q → In q qs
-first_in [] q e = let z : ◌≡◌ {A = ℕ} 0 1 = cc in absurd (omega arith)
+first_in [] q e = cc
 first_in (a ∷ as') q e = ahead_in a q as' (first_by_level as') (first_in as') e
 
 kept_in_step : (test : Request → Bool) (a q : Request) (as' : List Request) (t : Bool) → (In q (filter test as') → In q as') → In q (cond t (a ∷ filter test as') (filter test as')) → In q (a ∷ as')
@@ -59,6 +59,14 @@ in_waits [] q h = elim h [ ]
 in_waits (a ∷ as') q (inl e) = ap (λ t. is_some (cond t (Some a) (waits_as q.place q.rab as'))) (ap (asks_for q.place q.rab) e ∙ own_asks q)
 in_waits (a ∷ as') q (inr h) = waits_step q.place q.rab a as' (asks_for q.place q.rab a) (in_waits as' q h)
 
+at_in : (qs : List Request) (q : Request) (i : ℕ) → i < length qs → get_or qs i q ≡ q → In q qs
+at_in [] q i l e = absurd (omega (arith, l))
+at_in (a ∷ as') q zero l e = inl e
+at_in (a ∷ as') q (suc i) l e = inr (at_in as' q i (omega (arith, l)) e)
+
+pub at_waits : (qs : List Request) (q : Request) (i : ℕ) → i < length qs → get_or qs i q ≡ q → is_some (waits_as q.place q.rab qs) ≡ true
+at_waits qs q i l e = in_waits qs q (at_in qs q i l e)
+
 in_good : (qs : List Request) (q : Request) → requests_good qs ≡ true → In q qs → level_good q.priority ≡ true
 in_good [] q g h = elim h [ ]
 in_good (a ∷ as') q g (inl e) = ap (λ w. level_good w.priority) (sym e) ∙ (and_parts (level_good a.priority) (requests_good as') g).0
@@ -72,10 +80,9 @@ served_waitable x q k e =
     let qs = x.queue in
     let here = next_in x q e in
     let waits = in_waits qs q here in
-    let self : (eqb p p && eqb r r) ≡ true = grind (arith, nat_tests) in
     record {
       level = in_good qs q (and_parts (bearers_good x.bearers) (requests_good qs) k.ranges).1 here;
-      idle = waits_without p r p r qs (apart_from qs k.single) ∙ ap (λ t. cond t None (waits_as p r qs)) self;
+      idle = gone_without p r qs (apart_from qs k.single);
       room = room (set_up_as p r x.bearers) refl waits;
     }
   where
@@ -97,17 +104,13 @@ unfolding serve_up_to
 serve_none x zero e = refl
 serve_none x (suc n) e = ap (λ o. elim o [ None ↦ silent x | Some w ↦ then (serve_one w x) (serve_up_to n) ]) e
 
-pub serve_empty : {m : Radio} (x : State m) (n : ℕ) → n ≡ 0 → serve_up_to n x ≡ silent x
-unfolding serve_up_to
-serve_empty x n e = ap (λ k. serve_up_to k x) e
-
 shorter_step : (p r : ℕ) (a : Request) (as' : List Request) (t : Bool) → is_some (cond t (Some a) (waits_as p r as')) ≡ true →
     (is_some (waits_as p r as') ≡ true → length (without_request p r as') + 1 ≡ length as') → length (cond t as' (a ∷ without_request p r as')) + 1 ≡ suc (length as')
 shorter_step p r a as' true e ih = omega arith
 shorter_step p r a as' false e ih = let i = ih e in omega (arith, i)
 
-shorter : (p r : ℕ) (qs : List Request) → is_some (waits_as p r qs) ≡ true → length (without_request p r qs) + 1 ≡ length qs
-shorter p r [] e = let z : ◌≡◌ {A = ℕ} 0 1 = cc in absurd (omega arith)
+pub shorter : (p r : ℕ) (qs : List Request) → is_some (waits_as p r qs) ≡ true → length (without_request p r qs) + 1 ≡ length qs
+shorter p r [] e = cc
 shorter p r (a ∷ as') e = shorter_step p r a as' (asks_for p r a) e (shorter p r as')
 
 free_queue : {m : Radio} (o : Option Bearer) (x : State m) → (free_own o x).queue ≡ x.queue

@@ -1,20 +1,17 @@
 -- After its request has failed, a RAB waits no more.
-use Rattle.std.proofs.Common.{◌≡◌, ℕ, Bool, true, false, cond, ◌&&◌, eqb, None, refl, ap, ◌∙◌, arith}
-use Rattle.bearers.proofs.Waiting.{Apart, waits_without, nothing_there}
+use Rattle.std.proofs.Common.{◌≡◌, ℕ, Bool, true, false, cond, None, refl}
+use Rattle.bearers.proofs.Waiting.{Apart, gone_without, nothing_there}
 use Rattle.rules.specs.Actions.{fail_waiting, report}
 use Rattle.rules.specs.Radio.{Radio}
 use Rattle.rules.specs.State.{State, tell, silent, at_queue}
 use Rattle.rules.specs.Tables.{is_some, waits_as, without_request}
 use Rattle.rules.specs.declared.report.Cause.{Cause}
 use Rattle.rules.specs.declared.report.ReportKind.TheVariants as kind
-use Rattle.std.proofs.lemmas.Bool.Decides.{nat_tests}
 
 module _ {m : Radio} (c : Cause) (p r : ℕ) (x : State m) (ok : Apart x.queue) where
   at_test : (w : Bool) → is_some (waits_as p r x.queue) ≡ w →
       waits_as p r (cond w (tell (report kind.Failed p r c) (at_queue x (without_request p r x.queue))) (silent x)).state.queue ≡ None
-  at_test true e =
-      let self : (eqb p p && eqb r r) ≡ true = grind (arith, nat_tests) in
-      waits_without p r p r x.queue ok ∙ ap (λ t. cond t None (waits_as p r x.queue)) self
+  at_test true e = gone_without p r x.queue ok
   at_test false e = nothing_there (waits_as p r x.queue) e
 
   pub waits_no_more : waits_as p r (fail_waiting c p r x).state.queue ≡ None

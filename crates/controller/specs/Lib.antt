@@ -2,12 +2,11 @@ pub mod Page
 pub mod Gave
 pub mod Turn
 pub mod Chosen
-pub mod Due
-pub mod Cancel
 pub mod Notices
 pub mod Whose
 pub mod View
 pub mod Listed
-pub mod Pass
+pub mod Items
 pub mod Starts
 pub mod Tickets
+pub mod Checked

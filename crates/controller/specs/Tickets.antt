@@ -6,7 +6,7 @@ use Rattle.controller.specs.declared.ticket.Ticket.{Ticket}
 
 -- the number of its controller and its own
 abbrev pub id_of : Ticket → TicketId
-id_of t = record { controller = t.controller; number = t.number }
+id_of t = t.id
 
 -- what a start answers, with its ticket by what that is known by
 abbrev pub by_id : Result (Ticket × ℕ) Refusal → Result (TicketId × ℕ) Refusal

@@ -21,7 +21,9 @@ mod request;
 mod spending;
 mod starting;
 mod timers;
+mod ues;
 
+// Contracts see it by `view P.radio P.state`: a model's value cannot yet use what a bound says of the pool.
 #[derive(Drop)]
 pub struct Controller<P: RadioPool> {
     number: u16,

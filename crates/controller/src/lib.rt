@@ -2,11 +2,8 @@
 #![tactic(auto)]
 
 mod controller;
-mod notice;
 mod refusing;
 mod ticket;
-mod victims;
-mod whose;
 mod writing;
 
 pub use controller::Controller;

@@ -1,9 +1,15 @@
 // Refusals by the controller.
-ghost use Rattle.rules.specs.Refusals.{refusal};
-ghost use Rattle.rules.specs.declared.refusal.Reason.TheVariants as reason;
-ghost use Rattle.std.specs.Prelude.{◌≡◌};
+ghost use Rattle.controller.specs.Checked.{Checks};
+ghost use Rattle.rules.specs.Refusals.{refusal, unless_short};
+ghost use Rattle.std.specs.Prelude.{◌≡◌, None};
 
 use rules::refusal::{Reason, Refusal};
+
+// The last of the places of connections.
+pub(crate) const LAST_PLACE: u8 = 15;
+
+// No call makes more reports.
+const MOST_REPORTS: usize = 288;
 
 pub(crate) fn at_place(reason: Reason, place: u8) -> Refusal
     ensures { result ≡ refusal reason place }
@@ -14,9 +20,12 @@ pub(crate) fn at_place(reason: Reason, place: u8) -> Refusal
     }
 }
 
-// The list of reports is under 288 records; no place is named.
-pub(crate) fn short_list() -> Refusal
-    ensures { result ≡ refusal reason.ShortList 0 }
+// The list of reports has to hold whatever a call may report; no place is named.
+pub(crate) fn check_list(records: usize) -> Result<(), Refusal>
+    ensures { Checks (unless_short records None) result }
 {
-    at_place(Reason::ShortList, 0)
+    if records < MOST_REPORTS {
+        return Err(at_place(Reason::ShortList, 0));
+    }
+    Ok(())
 }

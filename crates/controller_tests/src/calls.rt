@@ -1,23 +1,13 @@
 // Refusals, expiry, questions, and a pool that was not empty.
-use crate::steps::{asking, blank, lists, refused, tells};
+use crate::steps::{asking, blank, counted, lists, refused, tells};
 use admission::{RadioPool, RatePool};
 use controller::Controller;
 use rules::refusal::Refusal;
 use std::test::*;
 
-// Number and place of a refusal; 0 and 0 where the call is obeyed.
+// The same of an opening, which reports nothing.
 fn told(answer: Result<(), Refusal>) -> (u8, usize) {
-    match answer {
-        Ok(_) => (0, 0),
-        Err(refusal) => (refusal.number(), usize::from(refusal.place)),
-    }
-}
-
-fn counted(answer: Result<usize, Refusal>) -> (u8, usize) {
-    match answer {
-        Ok(count) => (0, count),
-        Err(refusal) => (refusal.number(), usize::from(refusal.place)),
-    }
+    counted(answer.map(|()| 0))
 }
 
 #[test]

@@ -1,7 +1,9 @@
 // Frames made for a test, and what a controller tells of them.
 use admission::RadioPool;
 use controller::Controller;
+use rules::refusal::Refusal;
 use rules::report::{Cause, Report, ReportKind};
+use std::iter;
 
 // A list of 288 records that no call has written.
 pub fn blank() -> [Report; 288] {
@@ -31,46 +33,37 @@ pub fn closing(place: u8) -> [u8; 4] {
     [2, place, 0, 0]
 }
 
-// Whether a report has these numbers: kind, place, RAB ID, cause, size.
-pub fn is_report(r: &Report, wanted: &[u8; 5]) -> bool {
-    r.kind.number() == wanted[0]
-        && r.place == wanted[1]
-        && r.rab == wanted[2]
-        && r.cause.number() == wanted[3]
-        && r.size == wanted[4]
+// The five numbers of a report: kind, place, RAB ID, cause, size.
+fn numbers(r: &Report) -> [u8; 5] {
+    [r.kind.number(), r.place, r.rab, r.cause.number(), r.size]
 }
 
 // Whether the list begins with just these reports and is otherwise as it was.
 pub fn lists(list: &[Report; 288], count: usize, wanted: &[[u8; 5]]) -> bool {
-    if count != wanted.len() {
-        return false;
-    }
-    for i in 0..288usize {
-        if i < wanted.len() {
-            if !is_report(&list[i], &wanted[i]) {
-                return false;
-            }
-        } else if !is_report(&list[i], &[9, 99, 99, 12, 99]) {
-            return false;
-        }
-    }
-    true
+    let untouched = [9, 99, 99, 12, 99];
+    count == wanted.len()
+        && list
+            .iter()
+            .zip(wanted.iter().chain(iter::repeat(&untouched)))
+            .all(|(report, numbers_wanted)| numbers(report) == *numbers_wanted)
 }
 
 // Whether a frame is answered with just these reports.
 pub fn tells<P: RadioPool>(c: &mut Controller<P>, frame: &[u8], wanted: &[[u8; 5]]) -> bool {
     let mut list = blank();
-    match c.frame(frame, &mut list) {
-        Err(_) => false,
-        Ok(count) => lists(&list, count, wanted),
+    c.frame(frame, &mut list)
+        .is_ok_and(|count| lists(&list, count, wanted))
+}
+
+// Number and place of a refusal; 0 and the count of reports where the call is obeyed.
+pub fn counted(answer: Result<usize, Refusal>) -> (u8, usize) {
+    match answer {
+        Ok(count) => (0, count),
+        Err(refusal) => (refusal.number(), usize::from(refusal.place)),
     }
 }
 
-// Number and place of the refusal of a frame; 0 and the count of reports where it is obeyed.
+// The same of a frame.
 pub fn refused<P: RadioPool>(c: &mut Controller<P>, frame: &[u8]) -> (u8, usize) {
-    let mut list = blank();
-    match c.frame(frame, &mut list) {
-        Err(refusal) => (refusal.number(), usize::from(refusal.place)),
-        Ok(count) => (0, count),
-    }
+    counted(c.frame(frame, &mut blank()))
 }

@@ -1,3 +1,4 @@
 pub mod Cabinets
+pub mod Either
 pub mod Grants
 pub mod Replies

@@ -1,17 +1,19 @@
 -- What each line is answered, which reports follow, and which controller stands after it.
-use Rattle.std.specs.Prelude.{ℕ, Bool, true, false, ◌||◌, List, [], Some, None, Ok, Err, Option, Result}
-use Rattle.rabctl.specs.Cabinets.{Standing, new_cabinet, open_said, open_left, frame_said, frame_left, frame_told, expiry_said, expiry_left, expiry_told, rab_said, holds, admits}
+use Rattle.std.specs.Prelude.{ℕ, Bool, true, false, ◌||◌, List, [], is_some, Some, None, Ok, Err, Option, Result}
+use Rattle.rabctl.specs.Cabinets.{Standing, pools, new_cabinet}
 use Rattle.rabctl.specs.Grants.{named_set}
 use Rattle.rabctl.specs.declared.answer.Answer.{Answer}
 use Rattle.rabctl.specs.declared.answer.Answer.TheVariants as answer
-use Rattle.rabctl.specs.declared.problem.Problem.TheVariants.{Faulty, BeforeCabinet, SecondCabinet, NotBuilt}
+use Rattle.rabctl.specs.declared.problem.Problem.{Problem}
+use Rattle.rabctl.specs.declared.problem.Problem.TheVariants.{Unread, BeforeCabinet, SecondCabinet, NotBuilt}
 use Rattle.rabctl.specs.declared.problem.Unbuilt.TheVariants.{Start, Execute, Withdraw}
+use Rattle.rules.specs.Calls.{open_answer, open_outcome, frame_answer, frame_outcome, expiry_answer, expiry_outcome, question}
 use Rattle.rules.specs.Frame.{received}
-use Rattle.rules.specs.declared.bearer.RabState.{RabState}
 use Rattle.rules.specs.declared.refusal.Refusal.{Refusal}
 use Rattle.rules.specs.declared.report.Report.{Report}
 use Rattle.script.specs.Saying.{Saying, skips, makes, opens, hands, expires, starts, executes, withdraws, asks_rab, asks_grant, asks_room, shows}
 use Rattle.script.specs.Script.{meaning, may_take_memory}
+use Rattle.script.specs.declared.error.Error.TheVariants as unread
 use Rattle.script.specs.declared.said.Fault.{Fault}
 
 abbrev pub is_error : Answer → Bool
@@ -54,22 +56,19 @@ counted (answer.Room admitted) = 0
 counted answer.Shown = 0
 counted (answer.Error problem) = 0
 
--- a call's answer, or its refusal
-abbrev pub of_open : Result (Unit {0}) Refusal → Answer
-of_open (Ok done) = answer.Opened
-of_open (Err refusal) = answer.Refused refusal
+-- the answer that a call's result makes, or its refusal
+abbrev pub answered : {A : Type 0} → (A → Answer) → Result A Refusal → Answer
+answered f (Ok a) = f a
+answered f (Err refusal) = answer.Refused refusal
 
-abbrev pub of_frame : Result ℕ Refusal → Answer
-of_frame (Ok count) = answer.Frame count
-of_frame (Err refusal) = answer.Refused refusal
+-- an answer, or the error that a problem is
+abbrev pub or_error : Result Answer Problem → Answer
+or_error (Ok a) = a
+or_error (Err problem) = answer.Error problem
 
-abbrev pub of_expiry : Result ℕ Refusal → Answer
-of_expiry (Ok count) = answer.Expiry count
-of_expiry (Err refusal) = answer.Refused refusal
-
-abbrev pub of_rab : Result RabState Refusal → Answer
-of_rab (Ok state) = answer.Rab state
-of_rab (Err refusal) = answer.Refused refusal
+-- the problem of a line that there is no memory for
+abbrev pub no_memory : Problem
+no_memory = Unread unread.NoMemory
 
 -- until the cabinet stands, only a cabinet line is carried out
 abbrev pub before_cabinet : Saying → Answer
@@ -90,24 +89,24 @@ before_cabinet shows = answer.Error BeforeCabinet
 abbrev pub at_cabinet : ℕ → Standing → Saying → Answer
 at_cabinet n x skips = answer.Silence
 at_cabinet n x (makes number pool) = answer.Error SecondCabinet
-at_cabinet n x (hands bytes) = of_frame (frame_said n (received bytes) x)
-at_cabinet n x (opens place ue domain) = of_open (open_said place ue domain x)
-at_cabinet n x (expires place timer) = of_expiry (expiry_said n place timer x)
+at_cabinet n x (hands bytes) = answered answer.Frame (frame_answer n (received bytes) x)
+at_cabinet n x (opens place ue domain) = answered (λ _. answer.Opened) (open_answer place ue domain x)
+at_cabinet n x (expires place timer) = answered answer.Expiry (expiry_answer n place timer x)
 at_cabinet n x (starts ue) = answer.Error (NotBuilt Start)
 at_cabinet n x (executes ticket) = answer.Error (NotBuilt Execute)
 at_cabinet n x (withdraws ticket) = answer.Error (NotBuilt Withdraw)
-at_cabinet n x (asks_rab place rab) = of_rab (rab_said place rab x)
-at_cabinet n x (asks_grant grant) = answer.Held (holds x grant)
-at_cabinet n x (asks_room size named) = answer.Room (admits x (named_set named) size)
+at_cabinet n x (asks_rab place rab) = answered answer.Rab (question place rab x)
+at_cabinet n x (asks_grant grant) = answer.Held (pools.holds x.pool grant)
+at_cabinet n x (asks_room size named) = answer.Room (pools.admits x.pool (named_set named) size)
 at_cabinet n x shows = answer.Shown
 
 -- the controller after a line
 abbrev pub left_at : ℕ → Standing → Saying → Standing
 left_at n x skips = x
 left_at n x (makes number pool) = x
-left_at n x (hands bytes) = frame_left n (received bytes) x
-left_at n x (opens place ue domain) = open_left place ue domain x
-left_at n x (expires place timer) = expiry_left n place timer x
+left_at n x (hands bytes) = (frame_outcome n (received bytes) x).state
+left_at n x (opens place ue domain) = (open_outcome place ue domain x).state
+left_at n x (expires place timer) = (expiry_outcome n place timer x).state
 left_at n x (starts ue) = x
 left_at n x (executes ticket) = x
 left_at n x (withdraws ticket) = x
@@ -120,9 +119,9 @@ left_at n x shows = x
 abbrev pub told_at : ℕ → Standing → Saying → List Report
 told_at n x skips = []
 told_at n x (makes number pool) = []
-told_at n x (hands bytes) = frame_told n (received bytes) x
+told_at n x (hands bytes) = (frame_outcome n (received bytes) x).reports
 told_at n x (opens place ue domain) = []
-told_at n x (expires place timer) = expiry_told n place timer x
+told_at n x (expires place timer) = (expiry_outcome n place timer x).reports
 told_at n x (starts ue) = []
 told_at n x (executes ticket) = []
 told_at n x (withdraws ticket) = []
@@ -164,7 +163,7 @@ told n (Some x) s = told_at n x s
 -- a faulty line is an error, and changes nothing
 abbrev pub line_reply : ℕ → Option Standing → Result Saying Fault → Answer
 line_reply n x (Ok s) = reply n x s
-line_reply n x (Err f) = answer.Error (Faulty f)
+line_reply n x (Err f) = answer.Error (Unread (unread.Fault f))
 
 abbrev pub after_line : ℕ → Option Standing → Result Saying Fault → Option Standing
 after_line n x (Ok s) = after n x s
@@ -174,14 +173,9 @@ abbrev pub line_told : ℕ → Option Standing → Result Saying Fault → List 
 line_told n x (Ok s) = told n x s
 line_told n x (Err f) = []
 
--- whether something stands
-abbrev pub is_there : Option Standing → Bool
-is_there None = false
-is_there (Some x) = true
-
 -- whether what a line says makes a cabinet where none stands
 abbrev pub makes_one : Option Standing → Saying → Bool
-makes_one None s = is_there (made_by s)
+makes_one None s = is_some (made_by s)
 makes_one (Some x) s = false
 
 abbrev pub line_makes_one : Option Standing → Result Saying Fault → Bool

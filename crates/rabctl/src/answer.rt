@@ -1,9 +1,8 @@
 // What a line is answered.
-ghost use Rattle.rabctl.specs.Replies.{is_error, is_silent, counted, of_open, of_frame, of_expiry, of_rab};
+ghost use Rattle.rabctl.specs.Replies.{is_error, is_silent, counted};
 ghost use Rattle.std.specs.Prelude.{◌≡◌};
 
 use crate::problem::Problem;
-use crate::words;
 use rules::bearer::RabState;
 use rules::refusal::Refusal;
 use std::fmt;
@@ -28,42 +27,6 @@ pub enum Answer {
 }
 
 impl Answer {
-    pub fn of_open(res: Result<(), Refusal>) -> Answer
-        ensures { result ≡ of_open res }
-    {
-        match res {
-            Ok(()) => Answer::Opened,
-            Err(refusal) => Answer::Refused(refusal),
-        }
-    }
-
-    pub fn of_frame(res: Result<usize, Refusal>) -> Answer
-        ensures { result ≡ of_frame res }
-    {
-        match res {
-            Ok(count) => Answer::Frame(count),
-            Err(refusal) => Answer::Refused(refusal),
-        }
-    }
-
-    pub fn of_expiry(res: Result<usize, Refusal>) -> Answer
-        ensures { result ≡ of_expiry res }
-    {
-        match res {
-            Ok(count) => Answer::Expiry(count),
-            Err(refusal) => Answer::Refused(refusal),
-        }
-    }
-
-    pub fn of_rab(res: Result<RabState, Refusal>) -> Answer
-        ensures { result ≡ of_rab res }
-    {
-        match res {
-            Ok(state) => Answer::Rab(state),
-            Err(refusal) => Answer::Refused(refusal),
-        }
-    }
-
     pub fn is_error(&self) -> bool
         ensures { result ≡ is_error self.now }
     {
@@ -81,28 +44,10 @@ impl Answer {
         ensures { result ≡ counted self.now }
     {
         match self {
-            Answer::Frame(count) => *count,
-            Answer::Expiry(count) => *count,
+            Answer::Frame(count) | Answer::Expiry(count) => *count,
             _ => 0,
         }
     }
-}
-
-fn write_rab<W: fmt::Write>(f: &mut fmt::Formatter<W>, state: RabState) -> fmt::Result {
-    match state {
-        RabState::Unknown => f.write_str("rab: unknown"),
-        RabState::Waiting => f.write_str("rab: waiting"),
-        RabState::SetUp(size) => write!(f, "rab: set up {size}"),
-        RabState::SetUpWaiting(size) => write!(f, "rab: set up {size} and waiting"),
-    }
-}
-
-fn write_refusal<W: fmt::Write>(f: &mut fmt::Formatter<W>, refusal: &Refusal) -> fmt::Result {
-    let reason = refusal.number();
-    let layer = refusal.layer();
-    let place = refusal.place;
-    let words = words::reason_words(refusal.reason);
-    write!(f, "refused: {reason} layer {layer} place {place} {words}")
 }
 
 // The answer without its line's number. Its reports, or the picture, go on in lines of their own.
@@ -114,8 +59,8 @@ impl fmt::Display for Answer {
             Answer::Opened => f.write_str("open: done"),
             Answer::Frame(count) => write!(f, "frame: {count} reports"),
             Answer::Expiry(count) => write!(f, "expiry: {count} reports"),
-            Answer::Refused(refusal) => write_refusal(f, refusal),
-            Answer::Rab(state) => write_rab(f, *state),
+            Answer::Refused(refusal) => write!(f, "refused: {refusal}"),
+            Answer::Rab(state) => write!(f, "rab: {state}"),
             Answer::Held(size) => write!(f, "grant: {size}"),
             Answer::Room(true) => f.write_str("room: yes"),
             Answer::Room(false) => f.write_str("room: no"),

@@ -7,10 +7,10 @@ mod cabinet;
 mod desk;
 mod grants;
 mod play;
+mod printer;
 mod problem;
 mod reply;
 mod show;
-mod words;
 
 use anyhow::anyhow;
 use std::io::BufReader;
@@ -18,8 +18,7 @@ use std::{env, fs};
 
 // True if no line was an error.
 fn run(rt: &HostRuntime) -> anyhow::Result<bool> {
-    let mut arguments = env::args(rt)?.skip(1);
-    let clean = match arguments.next() {
+    let clean = match env::args(rt)?.nth(1) {
         Some(name) => play::play(
             rt,
             BufReader::new(rt.alloc(), fs::open(rt, name.as_str())?)?,

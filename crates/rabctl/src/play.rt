@@ -1,8 +1,8 @@
 // Plays a script: each line is answered, and the answer written out, before the next line is read.
 use crate::answer::Answer;
 use crate::desk::Desk;
+use crate::printer::Printer;
 use crate::show;
-use crate::words::ReportWords;
 use rules::report::{Cause, Report, ReportKind};
 use std::io;
 use std::io::{BufRead, Write};
@@ -16,38 +16,34 @@ const BLANK: Report = Report {
     size: 0,
 };
 
-// The next line without its newline; false at the end of the script.
-fn read_line(input: &mut impl BufRead, line: &mut Vec<u8>) -> io::Result<bool> {
+// The next line without its newline; none at the end of the script.
+// A `for` over `input.split` would make a list for each line: here all lines use the memory of one.
+fn read_line<'a>(input: &mut impl BufRead, line: &'a mut Vec<u8>) -> io::Result<Option<&'a [u8]>> {
     line.clear();
     if input.read_until(b'\n', line)? == 0 {
-        return Ok(false);
+        return Ok(None);
     }
-    if line.last() == Some(&b'\n') {
-        let _ = line.pop();
-    }
-    Ok(true)
+    let text = line.as_slice();
+    Ok(Some(text.strip_suffix(b"\n").unwrap_or(text)))
 }
 
 // The answer, and a line for each of its reports, which stand first in the list.
-fn write_out(rt: &HostRuntime, number: u64, answer: &Answer, reports: &[Report]) -> io::Result<()> {
+fn write_out(printer: &Printer<'_>, answer: &Answer, reports: &[Report]) -> io::Result<()> {
     if answer.is_silent() {
         return Ok(());
     }
-    println!(rt; "{number} {answer}")?;
+    printer.line(*answer)?;
     for report in reports.iter().take(answer.counted()) {
-        println!(rt; "  {}", ReportWords(*report))?;
+        printer.more(*report)?;
     }
     Ok(())
 }
 
 // The picture that a show line asks for.
-fn picture(rt: &HostRuntime, number: u64, answer: &Answer, desk: &Desk) -> io::Result<()> {
-    if !matches!(answer, Answer::Shown) {
-        return Ok(());
-    }
-    match desk.cabinet() {
-        Some(cabinet) => show::show(rt, number, cabinet),
-        None => Ok(()),
+fn picture(printer: &Printer<'_>, answer: &Answer, desk: &Desk) -> io::Result<()> {
+    match (answer, desk.cabinet()) {
+        (Answer::Shown, Some(cabinet)) => show::show(*printer, cabinet),
+        _ => Ok(()),
     }
 }
 
@@ -60,13 +56,14 @@ fn play_lines(
     let heap = rt.alloc();
     let mut desk = Desk::new();
     let mut line = Vec::new(heap);
-    for number in 1..u64::MAX {
-        if !read_line(&mut input, &mut line)? {
+    for number in 1u64.. {
+        let Some(text) = read_line(&mut input, &mut line)? else {
             break;
-        }
-        let answer = desk.answer(heap, line.as_slice(), reports);
-        write_out(rt, number, &answer, reports)?;
-        picture(rt, number, &answer, &desk)?;
+        };
+        let answer = desk.answer(heap, text, reports);
+        let printer = Printer { rt, number };
+        write_out(&printer, &answer, reports)?;
+        picture(&printer, &answer, &desk)?;
         rt.stdout().flush()?;
     }
     Ok(!desk.failed())

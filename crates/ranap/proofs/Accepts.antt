@@ -1,11 +1,14 @@
 -- A frame is accepted exactly when it is well formed, and says what its bytes say; a refused one has its first fault at the place named.
-use Rattle.std.proofs.Common.{◌≡◌, ℕ, zero, suc, ◌+◌, ◌*◌, ◌<◌, ◌≤◌, Bool, true, false, cond, eqb, List, [], length, get_or, Some, None, Err, Option, sym, refl, ap, ◌∙◌, subst, inl, inr, ⊎_elim, le_of_suc-le-suc, not-suc-le-zero, eq-or-lt_of_le, arith}
+use Rattle.std.proofs.Common.{◌≡◌, ℕ, zero, suc, ◌+◌, ◌*◌, ◌<◌, ◌≤◌, Bool, true, false, cond, eqb, List, [], length, get_or, Some, None, Err, Option, Result, sym, refl, ap, ◌∙◌, subst, inl, inr, ⊎_elim, arith}
+use Rattle.ranap.proofs.Chain.{frame_after, chained}
 use Rattle.ranap.proofs.Bits.{flags_whole, rights_whole}
 use Rattle.ranap.proofs.ItemBytes.{at_byte, at_first}
 use Rattle.ranap.proofs.ItemsScan.{ItemVerdict, items_told}
-use Rattle.ranap.proofs.Starts.{starts_from, starts_kind, one_kind, counts_from, counts_good}
+use Rattle.ranap.proofs.Starts.{starts_from, starts_kind, one_kind, counts_if_good}
 use Rattle.ranap.proofs.PairsScan.{PairVerdict, pairs_told}
 use Rattle.ranap.specs.Formed.{Starts, Counts, Placed, Assigns, Releases, Shaped, WellFormed, Says, Spells, FirstFault, of_start, of_count, of_pair, of_item, Reads, free_from, offset_at, length_at, blank}
+use Rattle.ranap.specs.Head.{head_of}
+use Rattle.rules.specs.declared.refusal.Refusal.{Refusal}
 use Rattle.rules.specs.Frame.{byte, kind_at, count_at, count_good, pair_at, pairs, pair_fault, item_fault, bytes_at, item_in, assignment_in, read_item, read_items, message_of, body_fault, fault_in, read_as, broken, read}
 use Rattle.rules.specs.Message.{Message, items_of, kind_of, place_of}
 use Rattle.rules.specs.Numbers.{frame_kind_number}
@@ -14,7 +17,7 @@ use Rattle.rules.specs.declared.item.FrameKind.TheVariants.{RabAssignmentRequest
 use Rattle.rules.specs.declared.item.Item.TheVariants.{Release}
 use Rattle.std.proofs.lemmas.List.FromFn.{get_or-map-range_with_len, length-map-range_with_len}
 use Rattle.std.proofs.lemmas.List.{get_or-map, length-map}
-use Rattle.std.proofs.lemmas.Bool.{both_ways, eq-eqb, ne_eqb}
+use Rattle.std.proofs.lemmas.Bool.{both_ways, cases_eq, eq-eqb, ne_eqb}
 
 -- items one after the other: each begins behind the pairs, and no two overlap
 module _ (bs : List ℕ) (placed : (j : ℕ) → j < count_at bs → Placed bs j) where
@@ -23,10 +26,10 @@ module _ (bs : List ℕ) (placed : (j : ℕ) → j < count_at bs → Placed bs j
   behind (suc i) l = omega (arith, behind i (omega (arith, l)), (placed (suc i) l).after)
 
   apart : (i j : ℕ) → i < j → j < count_at bs → offset_at bs i + length_at bs i ≤ offset_at bs j
-  apart i zero l h = absurd (not-suc-le-zero l)
+  apart i zero l h = absurd (omega (arith, l))
   apart i (suc j) l h =
       ⊎_elim (λ e. subst (λ k. offset_at bs k + length_at bs k ≤ offset_at bs (suc j)) (sym e) (placed (suc j) h).after)
-      (λ m. omega (arith, apart i j m (omega (arith, h)), (placed (suc j) h).after)) (eq-or-lt_of_le (le_of_suc-le-suc l))
+      (λ n. omega (arith, apart i j (omega (arith, l, n)) (omega (arith, h)), (placed (suc j) h).after)) (cases_eq i j)
 
 -- a well-formed frame has no fault
 module _ (bs : List ℕ) (w : WellFormed bs) where
@@ -42,9 +45,6 @@ module _ (bs : List ℕ) (w : WellFormed bs) where
   no_fault_in p (of_count k s bad e) = bad (subst (λ k'. Counts k' bs) (one_kind w.kind k bs w.starts s) w.counts)
   no_fault_in p (of_pair k s c i l before bad e) = bad (placed_in i l)
   no_fault_in p (of_item k s c placed i l before bad e) = bad (w.shaped i l)
-
-no_kind : (k : FrameKind) → ◌≡◌ {A = Option FrameKind} (Some k) None → ⊥
-no_kind k e = let z : ◌≡◌ {A = ℕ} 0 1 = cc in omega arith
 
 -- a refusal by the first fault
 faulty : (bs : List ℕ) (p : ℕ) → FirstFault bs p → Reads bs (Err (broken p))
@@ -138,14 +138,18 @@ module _ (bs : List ℕ) (k : FrameKind) (s : Starts k bs) where
   after_pairs c (Some p) v = faulty bs p (of_pair k s c v.0 v.1 v.2 v.3 v.4)
 
   after_count : (b : Bool) → count_good k bs ≡ b → Reads bs (read_as k (elim b [ false ↦ Some 2 | true ↦ body_fault bs ]) bs)
-  after_count false e = faulty bs 2 (of_count k s (λ c. both_ways (count_good k bs) e (counts_good k bs c)) refl)
+  after_count false e = faulty bs 2 (of_count k s (λ c. both_ways (count_good k bs) e ((counts_if_good k bs).1 c)) refl)
   after_count true e =
-      after_pairs (counts_from k bs e) (pair_fault (length bs) 0 (4 + 4 * count_at bs) (pairs bs)) (pairs_told bs (count_at bs))
+      after_pairs ((counts_if_good k bs).0 e) (pair_fault (length bs) 0 (4 + 4 * count_at bs) (pairs bs)) (pairs_told bs (count_at bs))
 
 after_kind : (bs : List ℕ) (o : Option FrameKind) → kind_at bs ≡ o → Reads bs (elim o [ None ↦ Err (broken 0) | Some k ↦ read_as k (fault_in k bs) bs ])
-after_kind bs None e = faulty bs 0 (of_start (λ k s. no_kind k (sym (starts_kind k bs s) ∙ e)) refl)
+after_kind bs None e = faulty bs 0 (of_start (λ k s. cc (starts_kind k bs s, e)) refl)
 after_kind bs (Some k) e = after_count bs k (starts_from k bs e) (count_good k bs) refl
 
 pub accepts : (bs : List ℕ) → Reads bs (read bs)
 unfolding read
 accepts bs = after_kind bs (kind_at bs) refl
+
+-- what the reader's steps give is what the rules say of the frame, and so it is accepted exactly when it is well formed
+pub reads : (bs : List ℕ) (r : Result Message Refusal) → r ≡ frame_after (head_of bs) bs → (r ≡ read bs) × Reads bs r
+reads bs r e = (e ∙ chained bs, subst (Reads bs) (sym (e ∙ chained bs)) (accepts bs))

@@ -1,11 +1,23 @@
 -- The reader's steps together give what the rules say of a frame.
 use Rattle.std.proofs.Common.{◌≡◌, ℕ, ◌+◌, ◌*◌, Bool, true, false, cond, List, length, Some, None, Ok, Err, Option, Result, refl}
 use Rattle.ranap.specs.Head.{head_as, head_of}
-use Rattle.ranap.specs.Steps.{unless_fault, items_unless, items_read, after_pairs, message_after, frame_after}
-use Rattle.rules.specs.Frame.{byte, kind_at, count_at, count_good, pairs, pair_fault, item_fault, read_items, body_fault, fault_in, broken, read_as, read}
+use Rattle.ranap.specs.Steps.{unless_fault, items_unless, items_read, after_pairs, body_read}
+use Rattle.ranap.specs.declared.head.Head.{Head}
+use Rattle.rules.specs.Frame.{message_with, byte, kind_at, count_at, count_good, pairs, pair_fault, item_fault, read_items, body_fault, fault_in, broken, read_as, read}
 use Rattle.rules.specs.Message.{Message}
 use Rattle.rules.specs.declared.item.FrameKind.{FrameKind}
+use Rattle.rules.specs.declared.item.ReadItem.{ReadItem}
 use Rattle.rules.specs.declared.refusal.Refusal.{Refusal}
+
+-- the message of a head, once the items are read
+abbrev pub message_after : Head → Result (List ReadItem) Refusal → Result Message Refusal
+message_after h (Ok is) = Ok (message_with h.kind h.place is)
+message_after h (Err f) = Err f
+
+-- what the whole reader gives, once the head is read
+abbrev pub frame_after : Result Head Refusal → List ℕ → Result Message Refusal
+frame_after (Ok h) bs = message_after h (body_read bs h.count)
+frame_after (Err f) bs = Err f
 
 module _ (bs : List ℕ) where
   at_items : (k : FrameKind) (o : Option ℕ) →

@@ -1,7 +1,5 @@
-pub mod Choosing
-pub mod PairsPass
+pub mod Firsts
 pub mod PairsScan
-pub mod ItemsPass
 pub mod ItemBytes
 pub mod ItemsScan
 pub mod Bits

@@ -1,12 +1,14 @@
 -- The table of RAB IDs that were seen, and what the check tells of every item.
-use Rattle.std.proofs.Common.{◌≡◌, ℕ, zero, suc, ◌+◌, ◌<◌, Bool, true, false, cond, ◌||◌, eqb, List, [], ◌∷◌, length, get_or, drop, set, Some, None, Decides, Option, sym, refl, ap, ◌∙◌, subst, ⊎_elim, le_of_suc-le-suc, not-suc-le-zero, eq-or-lt_of_le, add-one, arith, below_none, below_more}
+use Rattle.std.proofs.Common.{◌≡◌, ℕ, zero, suc, ◌+◌, ◌<◌, Bool, true, false, cond, eqb, List, [], ◌∷◌, length, get_or, drop, set, Some, None, Decides, Option, Result, sym, refl, ap, ◌∙◌, subst, ⊎_elim, arith, below_none, below_more}
 use Rattle.ranap.specs.Distinct.{rab_at, Repeats, Distinct, FirstRepeat, Checks}
 use Rattle.ranap.specs.Formed.{blank}
 use Rattle.rules.specs.Message.{among, repeats_among, repeats, unless_repeated, distinct}
 use Rattle.rules.specs.declared.item.Item.TheVariants.{Assign}
 use Rattle.rules.specs.declared.item.ReadItem.{ReadItem}
+use Rattle.rules.specs.declared.refusal.Refusal.{Refusal}
 use Rattle.std.proofs.lemmas.List.{at_drop_more, at_drop_all, get_or-set_same, get_or-set_other}
-use Rattle.std.proofs.lemmas.Bool.{cases_eq, eqb-true, eq-eqb, ne_eqb, or_cases, or_left, or_right, both_ways}
+use Rattle.std.proofs.lemmas.Bool.Decides.{nat_tests}
+use Rattle.std.proofs.lemmas.Bool.{cases_eq, eqb-true, eq-eqb, or_cases, or_left, or_right, both_ways}
 
 -- what the kit reads past the end of a list of items
 abbrev pub blank_item : ReadItem
@@ -24,11 +26,10 @@ blank_item = record {
 pub table_more : (seen : List Bool) (s : List ℕ) (r q : ℕ) → r ≡ q → length seen ≡ 256 → r < 256 → ((k : ℕ) → k < 256 → get_or seen k false ≡ among k s) →
     (k : ℕ) → k < 256 → get_or (set seen r true) k false ≡ among k (q ∷ s)
 table_more seen s r q e wide small all k l =
-    ⊎_elim
-    (λ h. subst (λ v. get_or (set seen r true) v false ≡ true) (sym (h ∙ sym e)) (get_or-set_same seen r true false (omega (arith, wide, small))) ∙
-    sym (ap (λ b. b || among k s) (eq-eqb k q h)))
-    (λ h. get_or-set_other seen r k true false (λ d. h (d ∙ e)) ∙ all k l ∙ sym (ap (λ b. b || among k s) (ne_eqb k q h)))
-    (cases_eq k q)
+    let same = all k l in
+    let here = get_or-set_same seen r true false (omega (arith, wide, small)) in
+    let other = get_or-set_other seen r k true false in
+    ⊎_elim (λ h. grind (arith, nat_tests)) (λ h. grind (arith, nat_tests)) (cases_eq k q)
 
 -- what the search for a repeat tells
 abbrev RepeatVerdict : List ReadItem → Option ℕ → Type 0
@@ -40,15 +41,14 @@ abbrev Has : List ReadItem → List ℕ → ℕ → Type 0
 Has is s i = (k : ℕ) → Decides (among k s) ((j : ℕ) × (j < i) × (rab_at is j ≡ k))
 
 has_none : (is : List ReadItem) → Has is [] 0
-has_none is k = ((λ e. absurd (both_ways false refl e)), λ h. absurd (not-suc-le-zero h.1))
+has_none is k = (λ e. cc, λ h. absurd (omega (arith, h.1)))
 
 has_more : (is : List ReadItem) (s : List ℕ) (i : ℕ) → Has is s i → Has is (rab_at is i ∷ s) (i + 1)
 has_more is s i has k = (
-  (λ e. ⊎_elim (λ h. (i, omega arith, sym (eqb-true k (rab_at is i) h))) (λ h. let o = (has k).0 h in (o.0, omega (arith, o.1), o.2))
-      (or_cases (eqb k (rab_at is i)) (among k s) e)),
+  λ e. ⊎_elim (λ h. (i, omega arith, sym (eqb-true k (rab_at is i) h))) (λ h. let o = (has k).0 h in (o.0, omega (arith, o.1), o.2))
+      (or_cases (eqb k (rab_at is i)) (among k s) e),
   λ h. ⊎_elim (λ d. or_left (eqb k (rab_at is i)) (among k s) (eq-eqb k (rab_at is i) (sym h.2 ∙ ap (rab_at is) d)))
-      (λ l. or_right (eqb k (rab_at is i)) (among k s) ((has k).1 (h.0, l, h.2)))
-      (eq-or-lt_of_le (le_of_suc-le-suc (subst (λ m. h.0 < m) (add-one i) h.1))),
+      (λ n. or_right (eqb k (rab_at is i)) (among k s) ((has k).1 (h.0, omega (arith, h.1, n), h.2))) (cases_eq h.0 i),
 )
 
 module _ (is : List ReadItem) where
@@ -75,5 +75,5 @@ module _ (is : List ReadItem) where
   verdict (Some p) f = (refl, f)
 
   -- the check accepts exactly what is distinct, and refuses at the first repeat
-  pub checks : Checks is (distinct is)
-  checks = verdict (repeats is) told
+  pub checks : (r : Result (Unit {0}) Refusal) → r ≡ distinct is → Checks is r
+  checks r e = subst (Checks is) (sym e) (verdict (repeats is) told)

@@ -1,12 +1,10 @@
 -- What the reader's two passes give: all pairs first, then the items.
-use Rattle.std.specs.Prelude.{ℕ, ◌+◌, ◌*◌, ◌<◌, ◌≤◌, List, map, length, Some, None, Ok, Err, Option, Result}
-use Rattle.rules.specs.Frame.{pair_at, pairs_of, end_of, pair_fault, item_fault, read_item, message_with, broken}
-use Rattle.rules.specs.Message.{Message}
+use Rattle.std.specs.Prelude.{ℕ, ◌+◌, ◌*◌, List, map, length, Some, None, Ok, Err, Option, Result}
+use Rattle.rules.specs.Frame.{word, pairs_of, pair_fault, item_fault, read_item, broken}
 use Rattle.rules.specs.declared.item.Pair.{Pair}
 use Rattle.rules.specs.declared.item.ReadItem.{ReadItem}
 use Rattle.rules.specs.declared.refusal.Refusal.{Refusal}
 use Rattle.ranap.specs.View.{listed}
-use Rattle.ranap.specs.declared.head.Head.{Head}
 use Rattle.ranap.specs.declared.items.Items.{Items}
 
 -- a refusal where there is a fault
@@ -14,9 +12,13 @@ abbrev pub unless_fault : Option ℕ → Result (Unit {0}) Refusal
 unless_fault None = Ok tt
 unless_fault (Some at') = Err (broken at')
 
--- every item ends in the frame
-abbrev pub Inside : List ℕ → ℕ → Type 0
-Inside bs n = (i : ℕ) → i < n → end_of (pair_at bs i) ≤ length bs
+-- the pair that four bytes say
+abbrev pub pair_in : List ℕ → Pair
+pair_in bs = record { offset = word bs 0; length = word bs 2 }
+
+-- the pairs that stand one after the other, four bytes each
+abbrev pub pairs_in : List (List ℕ) → List Pair
+pairs_in bss = map pair_in bss
 
 -- the items of some pairs, or the place of the first fault
 abbrev pub items_unless : Option ℕ → List ReadItem → Result (List ReadItem) Refusal
@@ -40,13 +42,3 @@ after_pairs (Err f) is = Err f
 -- what the two passes give together
 abbrev pub body_read : List ℕ → ℕ → Result (List ReadItem) Refusal
 body_read bs n = after_pairs (unless_fault (pair_fault (length bs) 0 (4 + 4 * n) (pairs_of bs n))) (items_read bs (pairs_of bs n))
-
--- the message of a head, once the items are read
-abbrev pub message_after : Head → Result (List ReadItem) Refusal → Result Message Refusal
-message_after h (Ok is) = Ok (message_with h.kind h.place is)
-message_after h (Err f) = Err f
-
--- what the whole reader gives, once the head is read
-abbrev pub frame_after : Result Head Refusal → List ℕ → Result Message Refusal
-frame_after (Ok h) bs = message_after h (body_read bs h.count)
-frame_after (Err f) bs = Err f

@@ -6,9 +6,12 @@ ghost use Rattle.std.specs.Prelude.{◌≡◌};
 use rules::item::ReadItem;
 use rules::refusal::{Reason, Refusal};
 
-fn first_repeat(items: &[ReadItem]) -> Result<(), Refusal>
-    ensures { result ≡ distinct items.now }
+// The items pass exactly when all their RAB IDs differ; else the first that repeats one is refused by its offset.
+pub fn check(items: &[ReadItem]) -> Result<(), Refusal>
+    ensures answer { result ≡ distinct items.now }
+    ensures distinct { Checks items.now result }
 {
+    // A HashSet of the RAB IDs would want the heap.
     let mut seen = [false; 256];
     for item in items {
         let rab = usize::from(item.item.rab());
@@ -21,12 +24,4 @@ fn first_repeat(items: &[ReadItem]) -> Result<(), Refusal>
         seen[rab] = true;
     }
     Ok(())
-}
-
-// The items pass exactly when all their RAB IDs differ; else the first that repeats one is refused by its offset.
-pub fn check(items: &[ReadItem]) -> Result<(), Refusal>
-    ensures answer { result ≡ distinct items.now }
-    ensures distinct { Checks items.now result }
-{
-    first_repeat(items)
 }

@@ -1,8 +1,8 @@
 // The frame reader: what a frame says, or the place of its first fault.
-ghost use Rattle.std.specs.Prelude.{◌≡◌, ◌+◌, ◌*◌, ◌<◌, ◌≤◌, length, if◌then◌else◌, Some, None};
+ghost use Rattle.std.specs.Prelude.{◌≡◌, ◌+◌, ◌*◌, ◌≤◌, All, length, if◌then◌else◌, Some, None};
 ghost use Rattle.ranap.specs.Formed.{Reads};
 ghost use Rattle.ranap.specs.Head.{head_of};
-ghost use Rattle.ranap.specs.Steps.{unless_fault, Inside, items_read, items_answered, body_read, frame_after};
+ghost use Rattle.ranap.specs.Steps.{unless_fault, pair_in, pairs_in, items_read, items_answered, body_read};
 ghost use Rattle.ranap.specs.View.{answered, saying, listed};
 ghost use Rattle.rules.specs.Frame.{word, broken, count_at, pair_at, end_of, pair_good, pair_fault, pairs_of, item_fault, bytes_at, item_good, item_in, flags_at, priority_at, message_with, read as frame-read};
 
@@ -22,49 +22,47 @@ fn broken_at(place: u16) -> Refusal
     }
 }
 
-// Two bytes, the high one first.
-fn word_at(frame: &[u8], i: usize) -> u16
-    requires { i + 1 < length frame.now }
-    ensures { result ≡ word frame.now i }
-{
-    u16::from(frame[i]) * 256 + u16::from(frame[i + 1])
-}
-
 // Kind, place and count of items.
 fn read_head(frame: &[u8]) -> Result<Head, Refusal>
     ensures { result ≡ head_of frame.now }
 {
-    let [first, place, high, low, ..] = frame else {
+    let &[first, place, high, low, ..] = frame else {
         return Err(broken_at(0));
     };
     if frame.len() > 1024 {
         return Err(broken_at(0));
     }
-    let Some(kind) = FrameKind::of(*first) else {
+    let Ok(kind) = FrameKind::try_from(first) else {
         return Err(broken_at(0));
     };
-    let count = usize::from(*high) * 256 + usize::from(*low);
-    if count < kind.fewest_items() || count > kind.most_items() {
+    let count = usize::from(u16::from_be_bytes([high, low]));
+    if !kind.items().contains(&count) {
         return Err(broken_at(2));
     }
     if 4 + 4 * count > frame.len() {
         return Err(broken_at(2));
     }
-    Ok(Head {
-        kind,
-        place: *place,
-        count,
-    })
+    Ok(Head { kind, place, count })
 }
 
-// Pair `i` as it stands in the frame.
-fn pair_of(frame: &[u8], i: usize) -> Pair
-    requires { (i < 32) × (8 + 4 * i ≤ length frame.now) }
-    ensures { result ≡ pair_at frame.now i }
+// The bytes of the pairs, which stand behind the head.
+fn pairs_of(frame: &[u8], count: usize) -> &[[u8; 4]]
+    requires { 4 + 4 * count ≤ length frame.now }
+    ensures pairs { pairs_in result.now ≡ pairs_of frame.now count }
+    ensures len { length result.now ≡ count }
 {
+    let (pairs, _) = frame[4..4 + 4 * count].as_chunks();
+    pairs
+}
+
+// A pair as its four bytes say it.
+fn pair_of(bytes: [u8; 4]) -> Pair
+    ensures { result ≡ pair_in bytes }
+{
+    let [high_offset, low_offset, high_length, low_length] = bytes;
     Pair {
-        offset: word_at(frame, 4 + 4 * i),
-        length: word_at(frame, 6 + 4 * i),
+        offset: u16::from_be_bytes([high_offset, low_offset]),
+        length: u16::from_be_bytes([high_length, low_length]),
     }
 }
 
@@ -74,29 +72,29 @@ fn end(pair: Pair) -> usize
     usize::from(pair.offset) + usize::from(pair.length)
 }
 
-// Pair `i`, if its item begins at `from` or later, ends in the frame and has one of the two lengths.
-fn good_pair(frame: &[u8], i: usize, from: usize) -> Option<Pair>
-    requires { (i < 32) × (8 + 4 * i ≤ length frame.now) }
-    ensures { result ≡ (if pair_good (length frame.now) from (pair_at frame.now i) then Some (pair_at frame.now i) else None) }
+// Whether a pair's item begins at `from` or later, ends in a frame of `len` bytes and has one of the two lengths.
+fn is_good(pair: Pair, from: usize, len: usize) -> bool
+    ensures { result ≡ pair_good len from pair }
 {
-    let pair = pair_of(frame, i);
-    if usize::from(pair.offset) < from || end(pair) > frame.len() {
-        return None;
-    }
-    if pair.length != 3 && pair.length != 6 {
-        return None;
-    }
-    Some(pair)
+    usize::from(pair.offset) >= from && end(pair) <= len && matches!(pair.length, 3 | 6)
+}
+
+// The pair that four bytes say, if it is good.
+fn good_pair(bytes: [u8; 4], from: usize, len: usize) -> Option<Pair>
+    ensures { result ≡ (if pair_good len from (pair_in bytes) then Some (pair_in bytes) else None) }
+{
+    let pair = pair_of(bytes);
+    is_good(pair, from, len).then_some(pair)
 }
 
 // Each pair in turn; the first that is not good is refused by its own offset.
-fn check_pairs(frame: &[u8], count: usize) -> Result<(), Refusal>
-    requires { (count ≤ 32) × (4 + 4 * count ≤ length frame.now) }
-    ensures { result ≡ unless_fault (pair_fault (length frame.now) 0 (4 + 4 * count) (pairs_of frame.now count)) }
+fn check_pairs(pairs: &[[u8; 4]], len: usize) -> Result<(), Refusal>
+    requires { length pairs.now ≤ 32 }
+    ensures { result ≡ unless_fault (pair_fault len 0 (4 + 4 * length pairs.now) (pairs_in pairs.now)) }
 {
-    let mut from = 4 + 4 * count;
-    for i in 0..count {
-        let Some(pair) = good_pair(frame, i, from) else {
+    let mut from = 4 + 4 * pairs.len();
+    for (i, &bytes) in pairs.iter().enumerate() {
+        let Some(pair) = good_pair(bytes, from, len) else {
             return Err(broken_at((4 + 4 * i) as u16));
         };
         from = end(pair);
@@ -131,16 +129,16 @@ fn priority_in(level: u8, rights: u8) -> Priority
 fn item_of(bytes: &[u8]) -> Option<Item>
     ensures { result ≡ (if item_good bytes.now then Some (item_in bytes.now) else None) }
 {
-    match bytes {
-        [1, rab, flags, size, level, rights] if *flags < 32 && *rights < 8 => {
+    match *bytes {
+        [1, rab, flags, size, level, rights] if flags < 32 && rights < 8 => {
             Some(Item::Assign(Assignment {
-                rab: *rab,
-                flags: flags_in(*flags),
-                size: *size,
-                priority: priority_in(*level, *rights),
+                rab,
+                flags: flags_in(flags),
+                size,
+                priority: priority_in(level, rights),
             }))
         }
-        [2, rab, _] => Some(Item::Release(*rab)),
+        [2, rab, _] => Some(Item::Release(rab)),
         _ => None,
     }
 }
@@ -154,17 +152,18 @@ fn item_at(frame: &[u8], pair: Pair) -> Option<Item>
 }
 
 // Each item in turn; the first that is not good is refused by its offset.
-fn read_items(frame: &[u8], count: usize) -> Result<Items, Refusal>
-    requires { (count ≤ 32) × ((4 + 4 * count ≤ length frame.now) × (Inside frame.now count)) }
-    ensures { items_answered result ≡ items_read frame.now (pairs_of frame.now count) }
+fn read_items(frame: &[u8], pairs: &[[u8; 4]]) -> Result<Items, Refusal>
+    requires few { length pairs.now ≤ 32 }
+    requires inside { All (λ p. end_of (pair_in p) ≤ length frame.now) pairs.now }
+    ensures { items_answered result ≡ items_read frame.now (pairs_in pairs.now) }
 {
     let mut items = Items::empty();
-    for i in 0..count {
-        let pair = pair_of(frame, i);
+    for &bytes in pairs {
+        let pair = pair_of(bytes);
         let Some(item) = item_at(frame, pair) else {
             return Err(broken_at(pair.offset));
         };
-        let _ = items.push(ReadItem {
+        items.add(ReadItem {
             offset: pair.offset,
             item,
         });
@@ -174,11 +173,13 @@ fn read_items(frame: &[u8], count: usize) -> Result<Items, Refusal>
 
 // All pairs are checked before any item.
 fn read_body(frame: &[u8], count: usize) -> Result<Items, Refusal>
-    requires { (count ≡ count_at frame.now) × ((count ≤ 32) × (4 + 4 * count ≤ length frame.now)) }
+    requires few { count ≤ 32 }
+    requires long { 4 + 4 * count ≤ length frame.now }
     ensures { items_answered result ≡ body_read frame.now count }
 {
-    check_pairs(frame, count)?;
-    read_items(frame, count)
+    let pairs = pairs_of(frame, count);
+    check_pairs(pairs, frame.len())?;
+    read_items(frame, pairs)
 }
 
 fn message_of(head: Head, items: Items) -> Message
@@ -194,18 +195,12 @@ fn message_of(head: Head, items: Items) -> Message
     }
 }
 
-fn read_frame(frame: &[u8]) -> Result<Message, Refusal>
-    ensures { answered result ≡ frame_after (head_of frame.now) frame.now }
-{
-    let head = read_head(frame)?;
-    let items = read_body(frame, head.count)?;
-    Ok(message_of(head, items))
-}
-
 // What a frame says, or the place of its first fault. It is accepted exactly when it is well formed.
 pub fn read(frame: &[u8]) -> Result<Message, Refusal>
     ensures answer { answered result ≡ frame-read frame.now }
     ensures formed { Reads frame.now (answered result) }
 {
-    read_frame(frame)
+    let head = read_head(frame)?;
+    let items = read_body(frame, head.count)?;
+    Ok(message_of(head, items))
 }

@@ -26,7 +26,7 @@ fn item_offsets(rt: HostRuntime) -> Result<(), Fail> {
         let mut frame = one_item(rt.alloc(), 8, 6, &[])?;
         put_all(&mut frame, usize::from(offset), &SETUP);
         pair(&mut frame, 0, offset, 6);
-        assert_eq!(rt; told(frame.as_slice()), wanted);
+        assert_eq!(rt; told(&frame), wanted);
     }
     Ok(())
 }
@@ -46,7 +46,7 @@ fn neighbours(rt: HostRuntime) -> Result<(), Fail> {
         put_all(&mut frame, usize::from(second), &[1, 6, 0x1b, 8, 3, 7]);
         pair(&mut frame, 0, 12, 6);
         pair(&mut frame, 1, second, 6);
-        assert_eq!(rt; told(frame.as_slice()), wanted);
+        assert_eq!(rt; told(&frame), wanted);
     }
     Ok(())
 }
@@ -61,10 +61,10 @@ fn item_lengths(rt: HostRuntime) -> Result<(), Fail> {
             3 => (2, 1, 10),
             _ => (2, 1, 4),
         };
-        assert_eq!(rt; told(frame.as_slice()), wanted);
+        assert_eq!(rt; told(&frame), wanted);
     }
     let release = one_item(rt.alloc(), 10, 6, &[2, 5, 0])?;
-    assert_eq!(rt; told(release.as_slice()), (2, 1, 10));
+    assert_eq!(rt; told(&release), (2, 1, 10));
     Ok(())
 }
 
@@ -74,10 +74,10 @@ fn first_bytes(rt: HostRuntime) -> Result<(), Fail> {
         let mut frame = one_item(rt.alloc(), 8, 6, &SETUP)?;
         put(&mut frame, 8, first);
         let wanted = if first == 1 { (0, 0, 1) } else { (2, 1, 8) };
-        assert_eq!(rt; told(frame.as_slice()), wanted);
+        assert_eq!(rt; told(&frame), wanted);
         pair(&mut frame, 0, 8, 3);
         let wanted = if first == 2 { (0, 0, 1) } else { (2, 1, 8) };
-        assert_eq!(rt; told(frame.as_slice()), wanted);
+        assert_eq!(rt; told(&frame), wanted);
     }
     Ok(())
 }
@@ -90,7 +90,7 @@ fn spare_bits(rt: HostRuntime) -> Result<(), Fail> {
             let mut frame = one_item(rt.alloc(), 8, 6, &[1, 5, 0, 8, 3, 0])?;
             put(&mut frame, at, 1 << bit);
             let wanted = if bit < bits { (0, 0, 1) } else { (2, 1, 8) };
-            assert_eq!(rt; told(frame.as_slice()), wanted);
+            assert_eq!(rt; told(&frame), wanted);
         }
     }
     Ok(())
@@ -102,8 +102,8 @@ fn late_pair_before_early_item(rt: HostRuntime) -> Result<(), Fail> {
     let mut frame = blank(rt.alloc(), 1, 2, 30)?;
     pair(&mut frame, 0, 12, 6);
     pair(&mut frame, 1, 18, 5);
-    assert_eq!(rt; told(frame.as_slice()), (2, 1, 8));
+    assert_eq!(rt; told(&frame), (2, 1, 8));
     pair(&mut frame, 1, 18, 3);
-    assert_eq!(rt; told(frame.as_slice()), (2, 1, 12));
+    assert_eq!(rt; told(&frame), (2, 1, 12));
     Ok(())
 }

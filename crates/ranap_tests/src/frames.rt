@@ -10,21 +10,19 @@ pub fn blank(heap: Global, kind: u8, count: u8, len: usize) -> Result<Vec<u8>, A
     Ok(frame)
 }
 
-pub fn put(frame: &mut Vec<u8>, at: usize, byte: u8) {
-    if at < frame.len() {
-        frame[at] = byte;
+// Bytes one after the other, from an offset on, as far as the frame goes.
+pub fn put_all(frame: &mut [u8], at: usize, bytes: &[u8]) {
+    for (place, byte) in frame.iter_mut().skip(at).zip(bytes) {
+        *place = *byte;
     }
 }
 
-// Bytes one after the other, from an offset on.
-pub fn put_all(frame: &mut Vec<u8>, at: usize, bytes: &[u8]) {
-    for (i, byte) in bytes.iter().enumerate() {
-        put(frame, at.saturating_add(i), *byte);
-    }
+pub fn put(frame: &mut [u8], at: usize, byte: u8) {
+    put_all(frame, at, &[byte]);
 }
 
 // Pair `i`.
-pub fn pair(frame: &mut Vec<u8>, i: usize, offset: u8, length: u8) {
+pub fn pair(frame: &mut [u8], i: usize, offset: u8, length: u8) {
     put_all(
         frame,
         i.saturating_mul(4).saturating_add(4),

@@ -7,7 +7,7 @@ fn frame_lengths(rt: HostRuntime) -> Result<(), Fail> {
     assert_eq!(rt; told(&[]), (2, 1, 0));
     for (len, place) in [(3, 2), (4, 0), (1024, 0), (1025, 2)] {
         let frame = blank(rt.alloc(), 2, 0, len)?;
-        assert_eq!(rt; told(frame.as_slice()), (place, place / 2, 0));
+        assert_eq!(rt; told(&frame), (place, place / 2, 0));
     }
     Ok(())
 }
@@ -16,7 +16,7 @@ fn frame_lengths(rt: HostRuntime) -> Result<(), Fail> {
 fn frame_kinds(rt: HostRuntime) -> Result<(), Fail> {
     for (kind, number) in [(0, 2), (2, 0), (3, 0), (4, 0), (5, 2), (129, 2)] {
         let frame = blank(rt.alloc(), kind, 0, 4)?;
-        assert_eq!(rt; told(frame.as_slice()), (number, number / 2, 0));
+        assert_eq!(rt; told(&frame), (number, number / 2, 0));
     }
     Ok(())
 }
@@ -37,7 +37,7 @@ fn counts_of_requests(rt: HostRuntime) -> Result<(), Fail> {
         } else {
             (2, 1, 2)
         };
-        assert_eq!(rt; told(frame.as_slice()), wanted);
+        assert_eq!(rt; told(&frame), wanted);
     }
     Ok(())
 }
@@ -49,7 +49,7 @@ fn counts_of_others(rt: HostRuntime) -> Result<(), Fail> {
         for (count, number) in [(0u8, 0u8), (1, 2), (32, 2), (33, 2)] {
             let frame = blank(rt.alloc(), kind, count, 300)?;
             let wanted = (number, number / 2, usize::from(number));
-            assert_eq!(rt; told(frame.as_slice()), wanted);
+            assert_eq!(rt; told(&frame), wanted);
         }
     }
     Ok(())
@@ -60,8 +60,8 @@ fn counts_of_others(rt: HostRuntime) -> Result<(), Fail> {
 fn high_bytes_and_short_pairs(rt: HostRuntime) -> Result<(), Fail> {
     let mut frame = blank(rt.alloc(), 1, 1, 20)?;
     put(&mut frame, 2, 1);
-    assert_eq!(rt; told(frame.as_slice()), (2, 1, 2));
+    assert_eq!(rt; told(&frame), (2, 1, 2));
     let frame = blank(rt.alloc(), 1, 4, 19)?;
-    assert_eq!(rt; told(frame.as_slice()), (2, 1, 2));
+    assert_eq!(rt; told(&frame), (2, 1, 2));
     Ok(())
 }

@@ -1,4 +1,6 @@
 pub mod Numbers
+pub mod Telling
+pub mod Codes
 pub mod Grants
 pub mod Radio
 pub mod Connections

@@ -1,8 +1,15 @@
 // The RABs that the controller knows.
+//
+// Place and RAB ID stay two numbers: the public calls and every report give them so.
+ghost use Rattle.rules.specs.Telling.{rab_text};
+ghost use Rattle.std.specs.Prelude.{Some};
+
 use crate::item::Priority;
+use std::fmt;
 
 // A set-up RAB: its grant, its size in use and its priority in use.
-#[derive(Clone, Copy)]
+// The default only fills the unused room of a list with a fixed capacity.
+#[derive(Clone, Copy, Debug, Default, PartialEq, Eq)]
 pub struct Bearer {
     pub place: u8,
     pub rab: u8,
@@ -12,7 +19,7 @@ pub struct Bearer {
 }
 
 // A request for a size, waiting or at its turn.
-#[derive(Clone, Copy)]
+#[derive(Clone, Copy, Debug, PartialEq, Eq)]
 pub struct Request {
     pub place: u8,
     pub rab: u8,
@@ -21,10 +28,23 @@ pub struct Request {
 }
 
 // What the question for a RAB is answered; a set-up RAB with its size in use.
-#[derive(Clone, Copy)]
+#[derive(Clone, Copy, Debug, PartialEq, Eq)]
 pub enum RabState {
     Unknown,
     Waiting,
     SetUp(u8),
     SetUpWaiting(u8),
+}
+
+impl fmt::Display for RabState {
+    ghost output = { λ state. Some (rab_text state) };
+
+    fn fmt<W: fmt::Write>(&self, f: &mut fmt::Formatter<W>) -> fmt::Result {
+        match self {
+            RabState::Unknown => f.write_str("unknown"),
+            RabState::Waiting => f.write_str("waiting"),
+            RabState::SetUp(size) => write!(f, "set up {size}"),
+            RabState::SetUpWaiting(size) => write!(f, "set up {size} and waiting"),
+        }
+    }
 }

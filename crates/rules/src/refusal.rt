@@ -1,45 +1,33 @@
 // Calls that are refused.
 ghost use Rattle.rules.specs.Numbers.{reason_number, layer_number, layer_of};
-ghost use Rattle.std.specs.Prelude.{◌≡◌};
+ghost use Rattle.rules.specs.Telling.{reason_text, refusal_text};
+ghost use Rattle.std.specs.Prelude.{◌≡◌, Some};
 
-#[derive(Clone, Copy)]
+use std::fmt;
+
+#[derive(Clone, Copy, Debug, PartialEq, Eq)]
 pub enum Reason {
-    ShortList,
-    BrokenFrame,
-    RepeatedRab,
-    BadPlace,
-    PlaceTaken,
-    DomainTaken,
-    BadCode,
-    UeRelocating,
-    NotRunning,
-    UeAbsent,
-    TicketOut,
-    TicketsGone,
-    ForeignTicket,
-    NotPrepared,
+    ShortList = 1,
+    BrokenFrame = 2,
+    RepeatedRab = 3,
+    BadPlace = 4,
+    PlaceTaken = 5,
+    DomainTaken = 6,
+    BadCode = 7,
+    UeRelocating = 8,
+    NotRunning = 9,
+    UeAbsent = 10,
+    TicketOut = 11,
+    TicketsGone = 12,
+    ForeignTicket = 13,
+    NotPrepared = 14,
 }
 
 impl Reason {
     pub fn number(self) -> u8
         ensures { result ≡ reason_number self }
     {
-        match self {
-            Reason::ShortList => 1,
-            Reason::BrokenFrame => 2,
-            Reason::RepeatedRab => 3,
-            Reason::BadPlace => 4,
-            Reason::PlaceTaken => 5,
-            Reason::DomainTaken => 6,
-            Reason::BadCode => 7,
-            Reason::UeRelocating => 8,
-            Reason::NotRunning => 9,
-            Reason::UeAbsent => 10,
-            Reason::TicketOut => 11,
-            Reason::TicketsGone => 12,
-            Reason::ForeignTicket => 13,
-            Reason::NotPrepared => 14,
-        }
+        self as u8
     }
 
     pub fn layer(self) -> Layer
@@ -53,28 +41,48 @@ impl Reason {
     }
 }
 
+impl fmt::Display for Reason {
+    ghost output = { λ reason. Some (reason_text reason) };
+
+    fn fmt<W: fmt::Write>(&self, f: &mut fmt::Formatter<W>) -> fmt::Result {
+        f.write_str(match self {
+            Reason::ShortList => "report list too short",
+            Reason::BrokenFrame => "broken frame",
+            Reason::RepeatedRab => "repeated RAB",
+            Reason::BadPlace => "bad place",
+            Reason::PlaceTaken => "place taken",
+            Reason::DomainTaken => "domain taken",
+            Reason::BadCode => "bad code",
+            Reason::UeRelocating => "UE relocating",
+            Reason::NotRunning => "not running",
+            Reason::UeAbsent => "UE absent",
+            Reason::TicketOut => "ticket out",
+            Reason::TicketsGone => "tickets gone",
+            Reason::ForeignTicket => "foreign ticket",
+            Reason::NotPrepared => "not prepared",
+        })
+    }
+}
+
 // Who refused: the frame reader, the message check or the controller.
-#[derive(Clone, Copy)]
+#[derive(Clone, Copy, Debug, PartialEq, Eq)]
 pub enum Layer {
-    Frame,
-    Message,
-    Controller,
+    Frame = 1,
+    Message = 2,
+    Controller = 3,
 }
 
 impl Layer {
     pub fn number(self) -> u8
         ensures { result ≡ layer_number self }
     {
-        match self {
-            Layer::Frame => 1,
-            Layer::Message => 2,
-            Layer::Controller => 3,
-        }
+        self as u8
     }
 }
 
 // Why a call was refused and where: an offset in the frame for the layers 1 and 2, a connection place for layer 3.
-#[derive(Clone, Copy)]
+// A refusal that names no place has place 0: the rules give every refusal a reason, a layer and a place.
+#[derive(Clone, Copy, Debug, PartialEq, Eq)]
 pub struct Refusal {
     pub reason: Reason,
     pub place: u16,
@@ -91,5 +99,20 @@ impl Refusal {
         ensures { result ≡ layer_number (layer_of self.now.reason) }
     {
         self.reason.layer().number()
+    }
+}
+
+impl fmt::Display for Refusal {
+    ghost output = { λ refusal. Some (refusal_text refusal) };
+
+    fn fmt<W: fmt::Write>(&self, f: &mut fmt::Formatter<W>) -> fmt::Result {
+        write!(
+            f,
+            "{} layer {} place {} {}",
+            self.number(),
+            self.layer(),
+            self.place,
+            self.reason
+        )
     }
 }

@@ -1,4 +1,3 @@
-pub mod Gathering
-pub mod Pairs
 pub mod Splitting
 pub mod Values
+mod Digits

@@ -1,5 +1,6 @@
 -- Hex digits.
-use Rattle.std.specs.Prelude.{ℕ, ◌+◌, ◌-◌, ◌*◌, ◌%◌, Bool, true, cond, ◌&&◌, List, [], ◌∷◌, length, is_some, Some, None, Option, ◌==◌, nat_le}
+use Rattle.std.specs.List.{list_all}
+use Rattle.std.specs.Prelude.{ℕ, ◌+◌, ◌-◌, ◌*◌, ◌%◌, Bool, cond, ◌&&◌, List, [], ◌∷◌, length, is_some, Some, None, Option, ◌==◌, nat_le}
 use Rattle.script.specs.declared.said.Fault.{Fault}
 use Rattle.script.specs.declared.said.Fault.TheVariants.{NotHex, OddHex}
 use Rattle.std.specs.Option.{unwrap_or}
@@ -15,8 +16,7 @@ abbrev pub hex : ℕ → Bool
 hex b = is_some (hex_digit b)
 
 abbrev pub all_hex : List ℕ → Bool
-all_hex [] = true
-all_hex (b ∷ bs) = hex b && all_hex bs
+all_hex bs = list_all hex bs
 
 -- a group has a fault if a byte in it is no hex digit, or else if one digit is left over
 abbrev pub group_fault : List ℕ → Option Fault

@@ -1,5 +1,6 @@
 -- Decimal numbers.
-use Rattle.std.specs.Prelude.{ℕ, ◌+◌, ◌-◌, ◌*◌, Bool, true, false, cond, ◌&&◌, List, [], ◌∷◌, Some, None, Ok, Err, Option, Result, nat_le}
+use Rattle.std.specs.List.{list_all}
+use Rattle.std.specs.Prelude.{ℕ, ◌+◌, ◌-◌, ◌*◌, Bool, false, cond, ◌&&◌, List, [], ◌∷◌, Some, None, Ok, Err, Option, Result, nat_le}
 use Rattle.script.specs.declared.said.Argument.{Argument}
 use Rattle.script.specs.declared.said.Argument.TheVariants.{Number, Capacity, Place, Ue, Domain, Timer, Ticket, Rab, Grant, Size}
 use Rattle.script.specs.declared.said.Fault.{Fault}
@@ -23,8 +24,7 @@ abbrev pub digit : ℕ → Bool
 digit b = nat_le 48 b && nat_le b 57
 
 abbrev pub all_digits : List ℕ → Bool
-all_digits [] = true
-all_digits (b ∷ bs) = digit b && all_digits bs
+all_digits bs = list_all digit bs
 
 -- one or more digits
 abbrev pub decimal : List ℕ → Bool

@@ -1,12 +1,11 @@
 -- What a line can say, as a value of the definitions, and the code's answers read as such values.
-use Rattle.std.specs.Prelude.{ℕ, List, Ok, Err, vec_items, Result, Vec}
-use Rattle.script.specs.Words.{words}
+use Rattle.std.specs.Prelude.{◌≡◌, ℕ, List, Ok, Err, vec_items, Result, ⊤}
+use Rattle.script.specs.declared.error.Error.{Error}
+use Rattle.script.specs.declared.error.Error.TheVariants as error
 use Rattle.script.specs.declared.said.Fault.{Fault}
 use Rattle.script.specs.declared.said.Line.{Line}
 use Rattle.script.specs.declared.said.Line.TheVariants as line
 use Rattle.script.specs.declared.said.Pool.{Pool}
-use Rattle.std.specs.declared.alloc.Global.{Global}
-use Rattle.std.specs.Borrow.{Bor}
 
 pub data Saying : Type 0 where
   skips : Saying
@@ -40,10 +39,12 @@ abbrev pub heard : Result Line Fault → Result Saying Fault
 heard (Ok l) = Ok (said l)
 heard (Err f) = Err f
 
-abbrev pub listed : Result (Vec ℕ Global) Fault → Result (List ℕ) Fault
-listed (Ok v) = Ok (vec_items v)
-listed (Err f) = Err f
+-- unless memory ran out, the result is what is meant, where `view` says what a value leads to
+abbrev pub LeadsTo : {X Y : Type 0} → (X → Result Y Fault) → Result X Error → Result Y Fault → Type 0
+LeadsTo view (Ok x) meant = view x ≡ meant
+LeadsTo view (Err (error.Fault f)) meant = Err f ≡ meant
+LeadsTo view (Err error.NoMemory) meant = ⊤
 
-abbrev pub with_words : {X : Type 0} → Result (X × Bor (List ℕ)) Fault → Result (X × List (List ℕ)) Fault
-with_words (Ok p) = Ok (p.0, words p.1.now)
-with_words (Err f) = Err f
+-- unless memory ran out, the result, seen by `view`, is what is meant
+abbrev pub Agrees : {X Y : Type 0} → (X → Y) → Result X Error → Result Y Fault → Type 0
+Agrees view result meant = LeadsTo (λ x. Ok (view x)) result meant

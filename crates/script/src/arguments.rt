@@ -1,53 +1,67 @@
 // The words after the first one, read from the left.
-ghost use Rattle.std.specs.Prelude.{◌≡◌, ◌≤◌, IfOk};
+ghost use Rattle.std.specs.Prelude.{◌≡◌, ◌≤◌, ℕ, List, [], Result, IfOk, OnOk, vec_items};
+ghost use Rattle.script.specs.Adding.{Adds};
 ghost use Rattle.script.specs.Numbers.{most_of};
-ghost use Rattle.script.specs.Saying.{said, heard, with_words};
-ghost use Rattle.script.specs.Script.{number_at, pool_at, ended};
-ghost use Rattle.script.specs.Words.{words};
+ghost use Rattle.script.specs.Saying.{said, heard, Agrees};
+ghost use Rattle.script.specs.Script.{with_rest, number_at, pool_at, gathered, ended};
+ghost use Rattle.script.specs.declared.said.Fault.{Fault};
 
+use crate::error::Error;
+use crate::number;
 use crate::said::{Argument, Fault, Line, Pool};
-use crate::{number, words};
+use crate::words::Words;
+use std::alloc::Global;
 
-// The next word as a number, and what stands after it.
-pub fn next_number(argument: Argument, text: &[u8]) -> Result<(u32, &[u8]), Fault>
-    ensures value { with_words result ≡ number_at argument (words text.now) }
-    ensures bound { IfOk result (λ p. p.0 ≤ most_of argument) }
-{
-    let Some(cut) = words::next(text) else {
-        return Err(Fault::Missing(argument));
-    };
-    let n = number::number(argument, cut.word)?;
-    Ok((n, cut.rest))
-}
-
-// The pool of a cabinet, and what stands after it.
-pub fn next_pool(text: &[u8]) -> Result<(Pool, &[u8]), Fault>
-    ensures { with_words result ≡ pool_at (words text.now) }
-{
-    let Some(cut) = words::next(text) else {
-        return Err(Fault::MissingPool);
-    };
-    if words::is(cut.word, "tree") {
-        return Ok((Pool::Tree, cut.rest));
+impl Words<'_> {
+    // The next word as a number.
+    pub fn number(&mut self, argument: Argument) -> Result<u32, Fault>
+        ensures value { with_rest self.new result ≡ number_at argument self.old }
+        ensures bound { IfOk result (λ n. n ≤ most_of argument) }
+    {
+        let word = self.next().ok_or(Fault::Missing(argument))?;
+        number::parse(argument, word)
     }
-    if !words::is(cut.word, "rate") {
-        return Err(Fault::UnknownPool);
-    }
-    let (capacity, after_capacity) = next_number(Argument::Capacity, cut.rest)?;
-    Ok((
-        Pool::Rate {
-            capacity: capacity as u16,
-        },
-        after_capacity,
-    ))
-}
 
-// The line, if no word follows.
-pub fn end(line: Line, text: &[u8]) -> Result<Line, Fault>
-    ensures { heard result ≡ ended (said line) (words text.now) }
-{
-    match words::next(text) {
-        Some(_) => Err(Fault::Extra),
-        None => Ok(line),
+    // The pool of a cabinet.
+    pub fn pool(&mut self) -> Result<Pool, Fault>
+        ensures { with_rest self.new result ≡ pool_at self.old }
+    {
+        match self.next().ok_or(Fault::MissingPool)? {
+            b"tree" => Ok(Pool::Tree),
+            b"rate" => Ok(Pool::Rate {
+                capacity: self.number(Argument::Capacity)? as u16,
+            }),
+            _ => Err(Fault::UnknownPool),
+        }
+    }
+
+    // Reads each word that is left: `add` adds to the list what a word gives.
+    // A `for` would move the words in: no Iterator has `by_ref`, and `&mut Words` is no Iterator.
+    pub fn gather<F: Fn(&[u8], &mut Vec<u8>) -> Result<(), Error>>(
+        &mut self,
+        heap: Global,
+        add: F,
+    ) -> Result<Vec<u8>, Error>
+        ghost part: { List ℕ → Result (List ℕ) Fault }
+        requires callable { F.IsAlwaysCallable add }
+        requires adds { (w : _) (v : _) (r : _) (v' : _) → F.post add w v r v' → Adds (part w.now) v.now.items r v'.now.items }
+        ensures value { Agrees vec_items result (gathered part self.old) }
+        ensures rest { OnOk result (self.new ≡ []) }
+    {
+        let mut all = Vec::new(heap);
+        while let Some(word) = self.next() {
+            add(word, &mut all)?;
+        }
+        Ok(all)
+    }
+
+    // The line, if no word is left.
+    pub fn end(mut self, line: Line) -> Result<Line, Fault>
+        ensures { heard result ≡ ended (said line) self.entry }
+    {
+        match self.next() {
+            Some(_) => Err(Fault::Extra),
+            None => Ok(line),
+        }
     }
 }

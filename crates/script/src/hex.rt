@@ -1,68 +1,53 @@
 // Hex digits.
-ghost use Rattle.std.specs.Prelude.{◌≡◌, ◌≤◌, ◌++◌, IfSome, OnOk};
-ghost use Rattle.script.specs.Hex.{hex, hex_digit, all_hex, group_fault, byte_of, pairs_of};
+ghost use Rattle.script.specs.Adding.{Adds};
+ghost use Rattle.script.specs.Hex.{hex_digit, all_hex, group_fault, byte_of};
+ghost use Rattle.script.specs.Script.{bytes_of};
+ghost use Rattle.std.specs.Prelude.{◌≡◌, ◌≤◌, IfSome, MatchResult};
 
+use crate::error::Error;
 use crate::said::Fault;
-use std::alloc::AllocError;
 
 // What a hex digit stands for, in either case of its letter.
-fn hex_digit(b: u8) -> Option<u8>
+fn hex_digit(b: u8) -> Option<u32>
     ensures value { result ≡ hex_digit b }
     ensures bound { IfSome result (λ d. d ≤ 15) }
 {
-    match b {
-        b'0'..=b'9' => Some(b - b'0'),
-        b'a'..=b'f' => Some(b - b'a' + 10),
-        b'A'..=b'F' => Some(b - b'A' + 10),
-        _ => None,
-    }
-}
-
-fn is_hex(b: u8) -> bool
-    ensures { result ≡ hex b }
-{
-    hex_digit(b).is_some()
+    char::from(b).to_digit(16)
 }
 
 fn all_hex(word: &[u8]) -> bool
     ensures { result ≡ all_hex word.now }
 {
-    for b in word {
-        if !is_hex(*b) {
-            return false;
-        }
-    }
-    true
+    word.iter().all(|b| hex_digit(*b).is_some())
 }
 
 // What keeps a group of digits from being bytes.
-pub fn group_fault(word: &[u8]) -> Option<Fault>
-    ensures { result ≡ group_fault word.now }
+fn check(word: &[u8]) -> Result<(), Fault>
+    ensures { MatchResult result (λ _. group_fault word.now ≡ None) (λ f. group_fault word.now ≡ Some f) }
 {
     if !all_hex(word) {
-        return Some(Fault::NotHex);
+        return Err(Fault::NotHex);
     }
     if word.len() % 2 != 0 {
-        return Some(Fault::OddHex);
+        return Err(Fault::OddHex);
     }
-    None
+    Ok(())
 }
 
-// The byte that two digits make.
+// The byte that two digits make. Its caller has checked that they are digits; the definition reads any other byte as 0.
 fn byte_of(high: u8, low: u8) -> u8
     ensures { result ≡ byte_of high low }
 {
-    hex_digit(high).unwrap_or(0) * 16 + hex_digit(low).unwrap_or(0)
+    (hex_digit(high).unwrap_or(0) * 16 + hex_digit(low).unwrap_or(0)) as u8
 }
 
 // Adds the bytes that a group of digits spells.
-pub fn spell(bytes: &mut Vec<u8>, word: &[u8]) -> Result<(), AllocError>
-    ensures { OnOk result (bytes.new.items ≡ bytes.old.items ++ pairs_of word.now) }
+pub fn add_bytes(word: &[u8], bytes: &mut Vec<u8>) -> Result<(), Error>
+    ensures { Adds (bytes_of word.now) bytes.old.items result bytes.new.items }
 {
-    let mut left = word;
-    while left.len() >= 2 {
-        bytes.push(byte_of(left[0], left[1]))?;
-        left = &left[2..];
+    check(word)?;
+    for &[high, low] in word.as_chunks::<2>().0 {
+        bytes.push(byte_of(high, low))?;
     }
     Ok(())
 }

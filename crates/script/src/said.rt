@@ -1,8 +1,11 @@
 // What a line says, or what is wrong with it.
 ghost use Rattle.script.specs.Numbers.{most_of};
-ghost use Rattle.std.specs.Prelude.{◌≡◌};
+ghost use Rattle.script.specs.Telling.{name, argument_text, fault_text};
+ghost use Rattle.std.specs.Prelude.{◌≡◌, Some};
 
-#[derive(Drop)]
+use std::fmt;
+
+#[derive(Debug, PartialEq, Eq, Drop)]
 pub enum Line {
     // No word, or a comment.
     Skipped,
@@ -20,14 +23,14 @@ pub enum Line {
 }
 
 // What a cabinet's grants come from.
-#[derive(Clone, Copy)]
+#[derive(Clone, Copy, Debug, PartialEq, Eq)]
 pub enum Pool {
     Rate { capacity: u16 },
     Tree,
 }
 
 // A word that is to be a number.
-#[derive(Clone, Copy)]
+#[derive(Clone, Copy, Debug, PartialEq, Eq)]
 pub enum Argument {
     Number,
     Capacity,
@@ -47,15 +50,43 @@ impl Argument {
         ensures { result ≡ most_of self }
     {
         match self {
-            Argument::Ue => 4294967295,
-            Argument::Number | Argument::Capacity => 65535,
-            _ => 255,
+            Argument::Ue => u32::MAX,
+            Argument::Number | Argument::Capacity => u32::from(u16::MAX),
+            _ => u32::from(u8::MAX),
+        }
+    }
+
+    fn name(self) -> &'static str
+        ensures { result.now ≡ name self }
+    {
+        match self {
+            Argument::Number => "NUMBER",
+            Argument::Capacity => "CAPACITY",
+            Argument::Place => "PLACE",
+            Argument::Ue => "UE",
+            Argument::Domain => "DOMAIN",
+            Argument::Timer => "TIMER",
+            Argument::Ticket => "TICKET",
+            Argument::Rab => "RAB",
+            Argument::Grant => "GRANT",
+            Argument::Size => "SIZE",
         }
     }
 }
 
+// Its name, with its range.
+impl fmt::Display for Argument {
+    ghost output = { λ a. Some (argument_text a) };
+
+    fn fmt<W: fmt::Write>(&self, f: &mut fmt::Formatter<W>) -> fmt::Result {
+        let name = self.name();
+        let most = self.most();
+        write!(f, "{name}, a decimal number 0..{most}")
+    }
+}
+
 // Why a line says nothing: its first fault from the left.
-#[derive(Clone, Copy)]
+#[derive(Clone, Copy, Debug, PartialEq, Eq)]
 pub enum Fault {
     UnknownWord,
     Missing(Argument),
@@ -67,3 +98,31 @@ pub enum Fault {
     OddHex,
     Extra,
 }
+
+// What was expected instead.
+impl fmt::Display for Fault {
+    ghost output = { λ f. Some (fault_text f) };
+
+    fn fmt<W: fmt::Write>(&self, f: &mut fmt::Formatter<W>) -> fmt::Result {
+        match self {
+            Fault::UnknownWord => f.write_str(
+                "expected cabinet, open, frame, expiry, start, execute, withdraw, rab, grant, room or show",
+            ),
+            Fault::Missing(argument) => write!(f, "expected {argument}, and the line ends"),
+            Fault::NotDecimal(argument) => write!(f, "expected {argument}, and the word is none"),
+            Fault::OutOfRange(argument) => write!(
+                f,
+                "expected {argument}, and the number is larger"
+            ),
+            Fault::MissingPool => f.write_str("expected rate or tree, and the line ends"),
+            Fault::UnknownPool => f.write_str("expected rate or tree"),
+            Fault::NotHex => f.write_str("expected hex digits, 0..9, a..f or A..F"),
+            Fault::OddHex => f.write_str(
+                "expected two hex digits for each byte, and one is left over",
+            ),
+            Fault::Extra => f.write_str("expected the end of the line, and a word follows"),
+        }
+    }
+}
+
+impl std::error::Error for Fault {}

@@ -1,8 +1,9 @@
 // The first word of a line, which chooses the call.
 ghost use Rattle.script.specs.Verbs.{verb_of};
-ghost use Rattle.std.specs.Prelude.{◌≡◌};
+ghost use Rattle.script.specs.declared.said.Fault.TheVariants.{UnknownWord};
+ghost use Rattle.std.specs.Prelude.{◌≡◌, Some, None, MatchResult};
 
-use crate::words;
+use crate::said::Fault;
 
 #[derive(Clone, Copy)]
 pub enum Verb {
@@ -19,42 +20,26 @@ pub enum Verb {
     Show,
 }
 
-// The call that a first word chooses, if there is one.
-pub fn known(word: &[u8]) -> Option<Verb>
-    ensures { result ≡ verb_of word.now }
-{
-    if words::is(word, "cabinet") {
-        return Some(Verb::Cabinet);
+// The call that a first word chooses.
+impl TryFrom<&[u8]> for Verb {
+    type Error = Fault;
+
+    ghost try_from_gives = { λ word r. MatchResult r (λ v. verb_of word.now ≡ Some v) (λ f. (verb_of word.now ≡ None) × (f ≡ UnknownWord)) };
+
+    fn try_from(word: &[u8]) -> Result<Self, Fault> {
+        match word {
+            b"cabinet" => Ok(Verb::Cabinet),
+            b"open" => Ok(Verb::Open),
+            b"frame" => Ok(Verb::Frame),
+            b"expiry" => Ok(Verb::Expiry),
+            b"start" => Ok(Verb::Start),
+            b"execute" => Ok(Verb::Execute),
+            b"withdraw" => Ok(Verb::Withdraw),
+            b"rab" => Ok(Verb::Rab),
+            b"grant" => Ok(Verb::Grant),
+            b"room" => Ok(Verb::Room),
+            b"show" => Ok(Verb::Show),
+            _ => Err(Fault::UnknownWord),
+        }
     }
-    if words::is(word, "open") {
-        return Some(Verb::Open);
-    }
-    if words::is(word, "frame") {
-        return Some(Verb::Frame);
-    }
-    if words::is(word, "expiry") {
-        return Some(Verb::Expiry);
-    }
-    if words::is(word, "start") {
-        return Some(Verb::Start);
-    }
-    if words::is(word, "execute") {
-        return Some(Verb::Execute);
-    }
-    if words::is(word, "withdraw") {
-        return Some(Verb::Withdraw);
-    }
-    if words::is(word, "rab") {
-        return Some(Verb::Rab);
-    }
-    if words::is(word, "grant") {
-        return Some(Verb::Grant);
-    }
-    if words::is(word, "room") {
-        return Some(Verb::Room);
-    }
-    if words::is(word, "show") {
-        return Some(Verb::Show);
-    }
-    None
 }

@@ -1,59 +1,62 @@
 // Words: what stands between spaces.
-ghost use Rattle.std.specs.Prelude.{◌≡◌, ◌<◌, ◌≤◌, [], ◌∷◌, length, take, drop, IfSome, MatchOption, ◌≢◌, slice_index};
-ghost use Rattle.script.specs.Words.{words, words_from};
-ghost use Rattle.std.specs.Str.{bytes_eq};
+ghost use Rattle.std.specs.Iterator.{YieldsFirstRef, item_count};
+ghost use Rattle.std.specs.Prelude.{◌≡◌, ◌==◌, not, length, take_while};
+ghost use Rattle.script.specs.Words.{words};
 
-// The first word of a text, and what stands after it.
-#[derive(Clone, Copy)]
-pub struct Cut<'a> {
-    pub word: &'a [u8],
-    pub rest: &'a [u8],
+use std::marker::Model;
+
+// The words of a text that are not read yet.
+// Not a chain of `split` and `filter`: each call takes a word and leaves the rest for the next one, and such a chain has a type that no field can name.
+#[derive(Drop)]
+pub struct Words<'a> {
+    text: &'a [u8],
 }
 
-// How many spaces the text begins with.
+impl<'a> Model for Words<'a> {
+    ghost use Rattle.std.specs.Prelude.{ℕ, List};
+    ghost use Rattle.script.specs.Words.{words};
+
+    ghost Value = { List (List ℕ) };
+
+    ghost view = { λ w. words w.text.now };
+}
+
+impl<'a> Words<'a> {
+    pub fn new(text: &'a [u8]) -> Words<'a>
+        ensures { result ≡ words text.now }
+    {
+        Words { text }
+    }
+}
+
+// How many spaces a text begins with.
 fn spaces(text: &[u8]) -> usize
-    ensures within { result ≤ length text.now }
-    ensures same { words (drop result text.now) ≡ words text.now }
-    ensures stops { result < length text.now → slice_index text.now result ≢ 32 }
+    ensures { result ≡ length (take_while (λ b. b == 32) text.now) }
 {
-    for (i, b) in text.iter().enumerate() {
-        if *b != b' ' {
-            return i;
-        }
-    }
-    text.len()
+    text.iter().take_while(|b| **b == b' ').count()
 }
 
-// How many bytes the text has before its first space.
+// How many bytes a text has before its first space.
 fn word_length(text: &[u8]) -> usize
-    ensures within { result ≤ length text.now }
-    ensures begun { words_from (take result text.now) (drop result text.now) ≡ words text.now }
-    ensures stops { result < length text.now → slice_index text.now result ≡ 32 }
+    ensures { result ≡ length (take_while (λ b. not (b == 32)) text.now) }
 {
-    for (i, b) in text.iter().enumerate() {
-        if *b == b' ' {
-            return i;
+    text.iter().take_while(|b| **b != b' ').count()
+}
+
+impl<'a> Iterator for Words<'a> {
+    type Item = &'a [u8];
+
+    ghost next_gives = { YieldsFirstRef (λ left. left) };
+
+    ghost remaining = { item_count (λ left. left) };
+
+    fn next(&mut self) -> Option<&'a [u8]> {
+        let (_, trimmed) = self.text.split_at(spaces(self.text));
+        if trimmed.is_empty() {
+            return None;
         }
+        let (word, rest) = trimmed.split_at(word_length(trimmed));
+        self.text = rest;
+        Some(word)
     }
-    text.len()
-}
-
-// The first word of a text, if it has one.
-pub fn next(text: &[u8]) -> Option<Cut<'_>>
-    ensures cut { MatchOption result (words text.now ≡ []) (λ c. words text.now ≡ c.word.now ∷ words c.rest.now) }
-    ensures shorter { IfSome result (λ c. length c.rest.now < length text.now) }
-{
-    let (_, trimmed) = text.split_at(spaces(text));
-    if trimmed.is_empty() {
-        return None;
-    }
-    let (word, rest) = trimmed.split_at(word_length(trimmed));
-    Some(Cut { word, rest })
-}
-
-// Whether a word is the one that is named.
-pub fn is(word: &[u8], name: &str) -> bool
-    ensures { result ≡ bytes_eq word.now name.now }
-{
-    word == name.as_bytes()
 }

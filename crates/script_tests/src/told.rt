@@ -1,5 +1,5 @@
 // What a line says, as text to compare.
-use script::{Argument, Fault, Line, Pool};
+use script::{Argument, Error, Fault, Line, Pool};
 use std::alloc::{AllocError, Global};
 
 fn name(argument: Argument) -> &'static str {
@@ -56,8 +56,9 @@ fn line_told(heap: Global, line: Line) -> Result<String, AllocError> {
 }
 
 pub fn told(heap: Global, line: &[u8]) -> Result<String, AllocError> {
-    match script::parse(heap, line)? {
+    match script::parse(heap, line) {
         Ok(line) => line_told(heap, line),
-        Err(fault) => fault_told(heap, fault),
+        Err(Error::Fault(fault)) => fault_told(heap, fault),
+        Err(Error::NoMemory) => Err(AllocError),
     }
 }

@@ -1,37 +1,17 @@
 // Changing the tables.
 ghost use Rattle.bearers.specs.Order.{level_good, bearer_good};
-ghost use Rattle.bearers.specs.Spot.{spot_of};
 ghost use Rattle.bearers.specs.View.{bearers_of, queue_of, enterable, queueable};
-ghost use Rattle.rules.specs.Tables.{before, with_bearer, without_bearer, without_request};
+ghost use Rattle.rules.specs.Tables.{with_bearer, without_bearer, without_request};
 ghost use Rattle.std.specs.Prelude.{◌≡◌, [], ◌∷◌, ◌++◌, if◌then◌else◌};
 
 use crate::tables::RabTables;
-use crate::tables::lookups::{index_of, is_set_up, is_waiting};
 use rules::bearer::{Bearer, Request};
 use rules::item::Priority;
-
-fn stands_before(a: &Bearer, b: &Bearer) -> bool
-    ensures { result ≡ before a.now b.now }
-{
-    a.place < b.place || (a.place == b.place && a.rab < b.rab)
-}
-
-// Where a RAB belongs in the table.
-fn spot(all: &[Bearer], b: &Bearer) -> usize
-    ensures { result ≡ spot_of b.now all.now }
-{
-    for (i, a) in all.iter().enumerate() {
-        if stands_before(b, a) {
-            return i;
-        }
-    }
-    all.len()
-}
 
 fn is_level_good(p: &Priority) -> bool
     ensures { result ≡ level_good p.now }
 {
-    1 <= p.level && p.level <= 15
+    (1..=15).contains(&p.level)
 }
 
 fn is_bearer_good(b: &Bearer) -> bool
@@ -45,8 +25,8 @@ impl RabTables {
         ensures { result ≡ enterable b.now (bearers_of self.now) (queue_of self.now) }
     {
         is_bearer_good(b)
-            && !is_set_up(self.bearers.as_slice(), b.place, b.rab)
-            && !is_waiting(self.queue.as_slice(), b.place, b.rab)
+            && !self.is_set_up(b.place, b.rab)
+            && !self.is_waiting(b.place, b.rab)
             && !self.is_full()
     }
 
@@ -54,8 +34,8 @@ impl RabTables {
         ensures { result ≡ queueable q.now (bearers_of self.now) (queue_of self.now) }
     {
         is_level_good(&q.priority)
-            && !is_waiting(self.queue.as_slice(), q.place, q.rab)
-            && (is_set_up(self.bearers.as_slice(), q.place, q.rab) || !self.is_full())
+            && !self.is_waiting(q.place, q.rab)
+            && (self.is_set_up(q.place, q.rab) || !self.is_full())
     }
 
     // The RAB is taken out of the table of set-up RABs, if it stands there.
@@ -63,8 +43,8 @@ impl RabTables {
         ensures bearers { bearers_of self.new ≡ without_bearer place rab (bearers_of self.old) }
         ensures queue { queue_of self.new ≡ queue_of self.old }
     {
-        if let Some(i) = index_of(self.bearers.as_slice(), place, rab) {
-            let _ = self.bearers.remove(i);
+        if let Ok(at) = self.search(place, rab) {
+            self.bearers.remove(at);
         }
     }
 
@@ -73,28 +53,30 @@ impl RabTables {
         ensures bearers { bearers_of self.new ≡ bearers_of self.old }
         ensures queue { queue_of self.new ≡ without_request place rab (queue_of self.old) }
     {
-        if let Some(i) = index_of(self.queue.as_slice(), place, rab) {
-            let _ = self.queue.remove(i);
-        }
+        self.queue.retain(|q| (q.place, q.rab) != (place, rab));
     }
 
     // A set-up RAB in its place in the table. It is refused, and nothing changes, if the RAB is set up or waits,
     // if 64 are known, or if its grant number is over 63 or its level not 1 to 15.
+    // Whether it was entered. A public answer, and a bool: why it would be refused is asked beforehand.
     pub fn enter(&mut self, b: Bearer) -> bool
         ensures answer { result ≡ enterable b (bearers_of self.old) (queue_of self.old) }
         ensures bearers { bearers_of self.new ≡ (if result then with_bearer b (bearers_of self.old) else bearers_of self.old) }
         ensures queue { queue_of self.new ≡ queue_of self.old }
     {
-        if !self.is_enterable(&b) {
-            return false;
+        match self.search(b.place, b.rab) {
+            Err(at) if self.is_enterable(&b) => {
+                // It has room, and so cannot fail.
+                let _ = self.bearers.insert(at, b);
+                true
+            }
+            _ => false,
         }
-        let at = spot(self.bearers.as_slice(), &b);
-        let _ = self.bearers.insert(at, b);
-        true
     }
 
     // A request at the end of the queue. It is refused, and nothing changes, if one of its RAB waits,
     // if the RAB is not set up and 64 are known, or if its level is not 1 to 15.
+    // Whether it was queued. A public answer, and a bool: why it would be refused is asked beforehand.
     pub fn enqueue(&mut self, q: Request) -> bool
         ensures answer { result ≡ queueable q (bearers_of self.old) (queue_of self.old) }
         ensures bearers { bearers_of self.new ≡ bearers_of self.old }
@@ -103,6 +85,7 @@ impl RabTables {
         if !self.is_queueable(&q) {
             return false;
         }
+        // It has room, and so cannot fail.
         let _ = self.queue.push(q);
         true
     }

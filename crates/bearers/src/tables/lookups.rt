@@ -1,109 +1,13 @@
 // Making the tables, and looking things up in them.
 ghost use Rattle.bearers.specs.Order.{bearer_good, bearers_good, requests_good};
-ghost use Rattle.bearers.specs.Search.{first_at, first_of};
+ghost use Rattle.bearers.specs.Spot.{IsAt, IsGapFor};
 ghost use Rattle.bearers.specs.View.{bearers_of, queue_of};
-ghost use Rattle.rules.specs.Tables.{is_some, of_rab, asks_for, stands_at, waits_at, set_up_as, waits_as, fresh, known_in};
-ghost use Rattle.std.specs.Prelude.{◌≡◌, ℕ, ◌<◌, ◌≤◌, Bool, true, [], length, IfSome, IfOk, if◌then◌else◌, filter, nat_le};
+ghost use Rattle.rules.specs.Tables.{is_some, stands_at, waits_at, set_up_as, waits_as, known_in};
+ghost use Rattle.std.specs.Prelude.{◌≡◌, ◌≤◌, true, [], length, IfSome, IfOk, IfErr, find, nat_le};
 
 use crate::tables::RabTables;
 use rules::bearer::{Bearer, Request};
 use std::alloc::{AllocError, Global};
-
-// An entry of a table, which belongs to a RAB at a place.
-pub(super) trait Entry {
-    ghost belongs: { ℕ → ℕ → Self → Bool };
-
-    ghost stands: { ℕ → Self → Bool };
-
-    fn is_of(&self, place: u8, rab: u8) -> bool
-        ensures { result ≡ belongs place rab self.now };
-
-    fn is_at(&self, place: u8) -> bool
-        ensures { result ≡ stands place self.now };
-}
-
-impl Entry for Bearer {
-    ghost belongs = { of_rab };
-
-    ghost stands = { stands_at };
-
-    fn is_of(&self, place: u8, rab: u8) -> bool {
-        self.place == place && self.rab == rab
-    }
-
-    fn is_at(&self, place: u8) -> bool {
-        self.place == place
-    }
-}
-
-impl Entry for Request {
-    ghost belongs = { asks_for };
-
-    ghost stands = { waits_at };
-
-    fn is_of(&self, place: u8, rab: u8) -> bool {
-        self.place == place && self.rab == rab
-    }
-
-    fn is_at(&self, place: u8) -> bool {
-        self.place == place
-    }
-}
-
-// Where the first entry of a RAB stands.
-pub(super) fn index_of<T: Entry>(all: &[T], place: u8, rab: u8) -> Option<usize>
-    ensures answer { result ≡ first_at (T.belongs place rab) 0 all.now }
-    ensures within { IfSome result (λ i. i < length all.now) }
-{
-    for (i, entry) in all.iter().enumerate() {
-        if entry.is_of(place, rab) {
-            return Some(i);
-        }
-    }
-    None
-}
-
-// Whether the RAB is among the set-up ones.
-pub(super) fn is_set_up(all: &[Bearer], place: u8, rab: u8) -> bool
-    ensures { result ≡ is_some (set_up_as place rab all.now) }
-{
-    match index_of(all, place, rab) {
-        Some(_) => true,
-        None => false,
-    }
-}
-
-// Whether a request of the RAB waits.
-pub(super) fn is_waiting(all: &[Request], place: u8, rab: u8) -> bool
-    ensures { result ≡ is_some (waits_as place rab all.now) }
-{
-    match index_of(all, place, rab) {
-        Some(_) => true,
-        None => false,
-    }
-}
-
-// 1 for a request that waits for a set-up, else 0.
-fn newcomer(q: &Request, bearers: &[Bearer]) -> usize
-    ensures { result ≡ (if fresh bearers.now q.now then 1 else 0) }
-{
-    if is_set_up(bearers, q.place, q.rab) {
-        0
-    } else {
-        1
-    }
-}
-
-// How many requests wait for a set-up.
-fn newcomers(queue: &[Request], bearers: &[Bearer]) -> usize
-    ensures { result ≡ length (filter (fresh bearers.now) queue.now) }
-{
-    let mut count = 0;
-    for q in queue {
-        count += newcomer(q, bearers);
-    }
-    count
-}
 
 impl RabTables {
     // Two empty tables, with room for 64 RABs and 64 requests.
@@ -121,7 +25,7 @@ impl RabTables {
         ensures good { bearers_good result.now ≡ true }
         ensures few { length result.now ≤ 64 }
     {
-        self.bearers.as_slice()
+        &self.bearers
     }
 
     // The waiting requests, by arrival.
@@ -130,7 +34,31 @@ impl RabTables {
         ensures good { requests_good result.now ≡ true }
         ensures few { length result.now ≤ 64 }
     {
-        self.queue.as_slice()
+        &self.queue
+    }
+
+    // Where the RAB stands among the set-up ones, or where it belongs.
+    // Place and RAB ID are two numbers here as in the rules and in the public calls; a struct of them would be taken apart at each.
+    pub(super) fn search(&self, place: u8, rab: u8) -> Result<usize, usize>
+        ensures found { IfOk result (IsAt place rab (bearers_of self.now)) }
+        ensures absent { IfErr result (IsGapFor place rab (bearers_of self.now)) }
+    {
+        self.bearers
+            .binary_search_by_key(&(place, rab), |b| (b.place, b.rab))
+    }
+
+    // Whether the RAB is set up.
+    pub(super) fn is_set_up(&self, place: u8, rab: u8) -> bool
+        ensures { result ≡ is_some (set_up_as place rab (bearers_of self.now)) }
+    {
+        self.bearer(place, rab).is_some()
+    }
+
+    // Whether a request of the RAB waits.
+    pub(super) fn is_waiting(&self, place: u8, rab: u8) -> bool
+        ensures { result ≡ is_some (waits_as place rab (queue_of self.now)) }
+    {
+        self.request(place, rab).is_some()
     }
 
     // The RAB as it is set up, if it is.
@@ -138,60 +66,48 @@ impl RabTables {
         ensures answer { result ≡ set_up_as place rab (bearers_of self.now) }
         ensures good { IfSome result (λ b. bearer_good b ≡ true) }
     {
-        match index_of(self.bearers.as_slice(), place, rab) {
-            Some(i) => Some(self.bearers[i]),
-            None => None,
-        }
+        self.search(place, rab).ok().map(|at| self.bearers[at])
     }
 
     // The RAB's waiting request, if it has one.
     pub fn request(&self, place: u8, rab: u8) -> Option<Request>
         ensures { result ≡ waits_as place rab (queue_of self.now) }
     {
-        match index_of(self.queue.as_slice(), place, rab) {
-            Some(i) => Some(self.queue[i]),
-            None => None,
-        }
+        self.queue
+            .iter()
+            .find(|q| (q.place, q.rab) == (place, rab))
+            .copied()
     }
 
     // How many RABs are known: set up, or waiting for their set-up.
     pub fn known(&self) -> usize
         ensures { result ≡ known_in (bearers_of self.now) (queue_of self.now) }
     {
-        self.bearers.len() + newcomers(self.queue.as_slice(), self.bearers.as_slice())
+        let waiting = self
+            .queue
+            .iter()
+            .filter(|q| !self.is_set_up(q.place, q.rab));
+        self.bearers.len() + waiting.count()
     }
 
-    // Whether 64 RABs are known. While both tables together are shorter than that, nothing need be counted.
+    // Whether 64 RABs are known.
     pub fn is_full(&self) -> bool
         ensures { result ≡ nat_le 64 (known_in (bearers_of self.now) (queue_of self.now)) }
     {
-        if self.bearers.len() + self.queue.len() < 64 {
-            return false;
-        }
         self.known() >= 64
     }
 
     // The first set-up RAB of a place, by RAB ID.
     pub fn bearer_at(&self, place: u8) -> Option<Bearer>
-        ensures { result ≡ first_of (stands_at place) (bearers_of self.now) }
+        ensures { result ≡ find (stands_at place) (bearers_of self.now) }
     {
-        for b in self.bearers.as_slice() {
-            if b.is_at(place) {
-                return Some(*b);
-            }
-        }
-        None
+        self.bearers.iter().find(|b| b.place == place).copied()
     }
 
     // The first waiting request of a place, by arrival.
     pub fn request_at(&self, place: u8) -> Option<Request>
-        ensures { result ≡ first_of (waits_at place) (queue_of self.now) }
+        ensures { result ≡ find (waits_at place) (queue_of self.now) }
     {
-        for q in self.queue.as_slice() {
-            if q.is_at(place) {
-                return Some(*q);
-            }
-        }
-        None
+        self.queue.iter().find(|q| q.place == place).copied()
     }
 }

@@ -1,45 +1,24 @@
 // The actions of which every call is made up, each with at most one report.
-ghost use Rattle.std.specs.Prelude.{◌≡◌, ◌<◌, true};
-ghost use Rattle.controller.specs.Gave.{Gave};
-ghost use Rattle.controller.specs.Page.{page};
+ghost use Rattle.std.specs.Prelude.{◌≡◌, ◌<◌};
+ghost use Rattle.controller.specs.Gave.{Did};
 ghost use Rattle.controller.specs.Turn.{Ready, Waitable};
 ghost use Rattle.controller.specs.View.{view};
 ghost use Rattle.rules.specs.Actions.{fail_waiting, free_bearer, drop_bearer, free_grant, establish, enqueue};
 
 use crate::controller::Controller;
-use crate::writing::put;
+use crate::writing::Sheet;
 use admission::RadioPool;
 use rules::bearer::{Bearer, Request};
-use rules::report::{Cause, Report, ReportKind};
+use rules::report::{Cause, ReportKind};
 
 impl<P: RadioPool> Controller<P> {
     // The RAB's waiting request fails, if it has one: kind 3.
-    pub(super) fn fail_waiting(
-        &mut self,
-        cause: Cause,
-        place: u8,
-        rab: u8,
-        reports: &mut [Report],
-        n: usize,
-    ) -> usize
-        ensures { Gave (fail_waiting cause place rab (view P.radio P.state self.old)) (view P.radio P.state self.new) (page reports.old n) (page reports.new result) }
+    pub(super) fn fail_waiting(&mut self, cause: Cause, place: u8, rab: u8, sheet: &mut Sheet<'_>)
+        ensures { Did P.radio P.state (fail_waiting cause place rab) self.old self.new sheet.old sheet.new }
     {
-        match self.rabs.request(place, rab) {
-            None => n,
-            Some(_) => {
-                self.rabs.remove_request(place, rab);
-                put(
-                    reports,
-                    n,
-                    Report {
-                        kind: ReportKind::Failed,
-                        place,
-                        rab,
-                        cause,
-                        size: 0,
-                    },
-                )
-            }
+        if self.rabs.request(place, rab).is_some() {
+            self.rabs.remove_request(place, rab);
+            sheet.tell(ReportKind::Failed, place, rab, cause);
         }
     }
 
@@ -48,7 +27,7 @@ impl<P: RadioPool> Controller<P> {
         ensures { view P.radio P.state self.new ≡ free_bearer b.now (view P.radio P.state self.old) }
     {
         self.rabs.remove_bearer(b.place, b.rab);
-        let _ = self.pool.give(b.grant);
+        self.pool.give(b.grant);
     }
 
     // A set-up RAB goes: kind 4, 6 or 7.
@@ -57,36 +36,21 @@ impl<P: RadioPool> Controller<P> {
         kind: ReportKind,
         cause: Cause,
         b: &Bearer,
-        reports: &mut [Report],
-        n: usize,
-    ) -> usize
-        ensures { Gave (drop_bearer kind cause b.now (view P.radio P.state self.old)) (view P.radio P.state self.new) (page reports.old n) (page reports.new result) }
+        sheet: &mut Sheet<'_>,
+    )
+        ensures { Did P.radio P.state (drop_bearer kind cause b.now) self.old self.new sheet.old sheet.new }
     {
         self.free_bearer(b);
-        put(
-            reports,
-            n,
-            Report {
-                kind,
-                place: b.place,
-                rab: b.rab,
-                cause,
-                size: 0,
-            },
-        )
+        sheet.tell(kind, b.place, b.rab, cause);
     }
 
-    // The smallest grant number that is not held; 63 where all before it are.
+    // The smallest grant number that is not held; 63 where all before it are, even if it is held too,
+    // as the rules define it: the take is then refused.
     fn free_grant(&self) -> u8
         ensures answer { result ≡ free_grant (view P.radio P.state self.now) }
         ensures small { result < 64 }
     {
-        for g in 0..63u8 {
-            if self.pool.held(g) == 0 {
-                return g;
-            }
-        }
-        63
+        (0..63u8).find(|g| self.pool.held(*g) == 0).unwrap_or(63)
     }
 
     // A new grant is taken, and the RAB stands in the table.
@@ -95,8 +59,8 @@ impl<P: RadioPool> Controller<P> {
         ensures { view P.radio P.state self.new ≡ (establish q.now (view P.radio P.state self.old)).state }
     {
         let grant = self.free_grant();
-        let _ = self.pool.take(grant, q.size);
-        let _ = self.rabs.enter(Bearer {
+        self.pool.take(grant, q.size);
+        self.rabs.enter(Bearer {
             place: q.place,
             rab: q.rab,
             grant,
@@ -106,40 +70,20 @@ impl<P: RadioPool> Controller<P> {
     }
 
     // A RAB is set up with a new grant: kind 1, with the size that it now has.
-    pub(super) fn establish(&mut self, q: &Request, reports: &mut [Report], n: usize) -> usize
+    pub(super) fn establish(&mut self, q: &Request, sheet: &mut Sheet<'_>)
         requires { Ready q.now (view P.radio P.state self.old) }
-        ensures { Gave (establish q.now (view P.radio P.state self.old)) (view P.radio P.state self.new) (page reports.old n) (page reports.new result) }
+        ensures { Did P.radio P.state (establish q.now) self.old self.new sheet.old sheet.new }
     {
         self.enter_new(q);
-        put(
-            reports,
-            n,
-            Report {
-                kind: ReportKind::Done,
-                place: q.place,
-                rab: q.rab,
-                cause: Cause::NoCause,
-                size: q.size,
-            },
-        )
+        sheet.tell_done(q.place, q.rab, q.size);
     }
 
     // A request waits, behind those that came before: kind 2.
-    pub(super) fn enqueue(&mut self, q: &Request, reports: &mut [Report], n: usize) -> usize
+    pub(super) fn enqueue(&mut self, q: &Request, sheet: &mut Sheet<'_>)
         requires { Waitable q.now (view P.radio P.state self.old) }
-        ensures { Gave (enqueue q.now (view P.radio P.state self.old)) (view P.radio P.state self.new) (page reports.old n) (page reports.new result) }
+        ensures { Did P.radio P.state (enqueue q.now) self.old self.new sheet.old sheet.new }
     {
-        let _ = self.rabs.enqueue(*q);
-        put(
-            reports,
-            n,
-            Report {
-                kind: ReportKind::Queued,
-                place: q.place,
-                rab: q.rab,
-                cause: Cause::NoCause,
-                size: 0,
-            },
-        )
+        self.rabs.enqueue(*q);
+        sheet.tell(ReportKind::Queued, q.place, q.rab, Cause::NoCause);
     }
 }

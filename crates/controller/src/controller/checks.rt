@@ -15,10 +15,9 @@ fn effective_of(p: Priority) -> Priority
     ensures { result ≡ effective p }
 {
     Priority {
-        level: p.level,
         triggers: p.triggers && p.level != 15,
         preemptable: p.preemptable && p.level != 15,
-        queuing: p.queuing,
+        ..p
     }
 }
 
@@ -71,12 +70,12 @@ fn is_ill_valued(a: &Assignment) -> bool
     ensures { result ≡ ill_valued a.now }
 {
     a.flags.parameters
-        && ((a.size == 0 || 64 < a.size)
-            || (a.flags.priority && (a.priority.level == 0 || 15 < a.priority.level)))
+        && (!(1..=64).contains(&a.size)
+            || (a.flags.priority && !(1..=15).contains(&a.priority.level)))
 }
 
 impl<P: RadioPool> Controller<P> {
-    // The first cause for which an item fails, if there is one.
+    // The first cause for which an item fails, if there is one: a cause to report, not a refusal of the call.
     pub(super) fn fault(&self, a: &Assignment, own: Option<Bearer>) -> Option<Cause>
         ensures { result ≡ fault_of a.now own (view P.radio P.state self.now) }
     {
@@ -86,14 +85,9 @@ impl<P: RadioPool> Controller<P> {
         if is_ill_valued(a) {
             return Some(Cause::InvalidValue);
         }
-        match own {
-            Some(_) => None,
-            None => {
-                if self.rabs.is_full() {
-                    return Some(Cause::TableFull);
-                }
-                None
-            }
+        if own.is_none() && self.rabs.is_full() {
+            return Some(Cause::TableFull);
         }
+        None
     }
 }

@@ -1,53 +1,46 @@
-// The failing of all waiting requests of a place, or of a UE.
-ghost use Rattle.bearers.specs.Search.{first_of};
-ghost use Rattle.controller.specs.Gave.{Gave};
-ghost use Rattle.controller.specs.Page.{page};
+// The failing of all waiting requests that are meant.
+ghost use Rattle.controller.specs.Gave.{Did};
 ghost use Rattle.controller.specs.View.{view};
-ghost use Rattle.controller.specs.Whose.{meant, fail_meant};
-ghost use Rattle.std.specs.Prelude.{◌≡◌};
+ghost use Rattle.controller.specs.Whose.{Tests, fail_meant};
+ghost use Rattle.rules.specs.Tables.{is_some, waits_as};
+ghost use Rattle.rules.specs.declared.connection.Connection.{Connection};
+ghost use Rattle.std.specs.Prelude.{◌≡◌, ℕ, Bool, true, IfSome, List, find};
 
 use crate::controller::Controller;
-use crate::whose::Whose;
+use crate::writing::Sheet;
 use admission::RadioPool;
+use bearers::Connections;
 use rules::bearer::Request;
-use rules::report::{Cause, Report};
+use rules::report::Cause;
 
 impl<P: RadioPool> Controller<P> {
-    fn is_meant(&self, whose: Whose, q: &Request) -> bool
-        ensures { result ≡ meant whose (view P.radio P.state self.now) q.now }
+    // The first waiting request that is meant.
+    fn first_meant<F: Fn(&Connections, &Request) -> bool>(&self, meant: &F) -> Option<Request>
+        requires { F.IsAlwaysCallable meant.now }
+        ensures first { (t : List Connection → ℕ → Bool) → Tests (F.post meant.now) t →
+            result ≡ find (λ q. t (view P.radio P.state self.now).connections q.place) (view P.radio P.state self.now).queue }
+        ensures waits { IfSome result (λ q. is_some (waits_as q.place q.rab (view P.radio P.state self.now).queue) ≡ true) }
     {
-        match whose {
-            Whose::OnPlace(place) => q.place == place,
-            Whose::OfUe(ue) => self.connections.is_of(q.place, ue),
-        }
+        self.rabs
+            .queue()
+            .iter()
+            .find(|q| meant(&self.connections, q))
+            .copied()
     }
 
-    // The first that waits.
-    fn first_meant(&self, whose: Whose) -> Option<Request>
-        ensures { result ≡ first_of (meant whose (view P.radio P.state self.now)) (view P.radio P.state self.now).queue }
-    {
-        for q in self.rabs.queue() {
-            if self.is_meant(whose, q) {
-                return Some(*q);
-            }
-        }
-        None
-    }
-
-    // All of them fail, by arrival.
-    pub(super) fn fail_all(
+    // All that are meant fail, by arrival.
+    pub(super) fn fail_all<F: Fn(&Connections, &Request) -> bool>(
         &mut self,
         cause: Cause,
-        whose: Whose,
-        reports: &mut [Report],
-        n: usize,
-    ) -> usize
-        ensures { Gave (fail_meant cause whose (view P.radio P.state self.old)) (view P.radio P.state self.new) (page reports.old n) (page reports.new result) }
+        meant: F,
+        sheet: &mut Sheet<'_>,
+    )
+        requires { F.IsAlwaysCallable meant }
+        ensures { (t : List Connection → ℕ → Bool) → Tests (F.post meant) t →
+            Did P.radio P.state (fail_meant cause t) self.old self.new sheet.old sheet.new }
     {
-        let mut at = n;
-        while let Some(q) = self.first_meant(whose) {
-            at = self.fail_waiting(cause, q.place, q.rab, reports, at);
+        while let Some(q) = self.first_meant(&meant) {
+            self.fail_waiting(cause, q.place, q.rab, sheet);
         }
-        at
     }
 }

@@ -1,7 +1,7 @@
 // What an arriving frame does.
-ghost use Rattle.controller.specs.Gave.{Gave};
+ghost use Rattle.controller.specs.Checked.{Checks};
+ghost use Rattle.controller.specs.Gave.{Did};
 ghost use Rattle.controller.specs.Listed.{listed};
-ghost use Rattle.controller.specs.Page.{page};
 ghost use Rattle.controller.specs.View.{view};
 ghost use Rattle.ranap.specs.View.{saying};
 ghost use Rattle.rules.specs.Calls.{frame_answer, frame_outcome};
@@ -11,7 +11,8 @@ ghost use Rattle.rules.specs.Refusals.{message_refusal};
 ghost use Rattle.std.specs.Prelude.{◌≡◌, length};
 
 use crate::controller::Controller;
-use crate::refusing::{at_place, short_list};
+use crate::refusing::{at_place, check_list};
+use crate::writing::Sheet;
 use admission::RadioPool;
 use ranap::{Message, receive};
 use rules::connection::ConnectionState;
@@ -19,38 +20,31 @@ use rules::refusal::{Reason, Refusal};
 use rules::report::Report;
 
 impl<P: RadioPool> Controller<P> {
-    // The first reason against a message, by the state of its connection.
-    fn message_refusal(&self, message: &Message) -> Option<Refusal>
-        ensures { result ≡ message_refusal (saying message.now) (view P.radio P.state self.now) }
+    // A message is refused for the first reason against it, by the state of its connection.
+    fn check_message(&self, message: &Message) -> Result<(), Refusal>
+        ensures { Checks (message_refusal (saying message.now) (view P.radio P.state self.now)) result }
     {
         let place = message.place();
-        if 15 < place {
-            return Some(at_place(Reason::BadPlace, place));
-        }
         match (self.connections.at(place).state, message) {
-            (ConnectionState::Closed, _) => Some(at_place(Reason::BadPlace, place)),
-            (ConnectionState::Preparing, _) => None,
-            (_, Message::RelocationCommand(_)) => Some(at_place(Reason::NotRunning, place)),
-            (_, Message::RelocationPreparationFailure(_)) => {
-                Some(at_place(Reason::NotRunning, place))
+            (ConnectionState::Closed, _) => Err(at_place(Reason::BadPlace, place)),
+            (ConnectionState::Preparing, _) => Ok(()),
+            (_, Message::RelocationCommand(_) | Message::RelocationPreparationFailure(_)) => {
+                Err(at_place(Reason::NotRunning, place))
             }
-            (_, _) => None,
+            (_, _) => Ok(()),
         }
     }
 
-    fn handle(&mut self, message: &Message, reports: &mut [Report]) -> usize
-        ensures { Gave (handled (saying message.now) (view P.radio P.state self.old)) (view P.radio P.state self.new) (page reports.old 0) (page reports.new result) }
+    fn handle(&mut self, message: &Message, sheet: &mut Sheet<'_>)
+        ensures { Did P.radio P.state (handled (saying message.now)) self.old self.new sheet.old sheet.new }
     {
         match message {
             Message::RabAssignmentRequest(place, items) => {
-                self.assignment(*place, items.as_slice(), reports, 0)
+                self.assignment(*place, items.as_slice(), sheet)
             }
-            Message::IuReleaseCommand(place) => self.iu_release(*place, reports, 0),
-            Message::RelocationCommand(place) => {
-                self.command(*place);
-                0
-            }
-            Message::RelocationPreparationFailure(place) => self.failure(*place, reports, 0),
+            Message::IuReleaseCommand(place) => self.iu_release(*place, sheet),
+            Message::RelocationCommand(place) => self.command(*place),
+            Message::RelocationPreparationFailure(place) => self.failure(*place, sheet),
         }
     }
 
@@ -61,13 +55,11 @@ impl<P: RadioPool> Controller<P> {
         ensures state { view P.radio P.state self.new ≡ (frame_outcome (length reports.old) (received bytes.now) (view P.radio P.state self.old)).state }
         ensures list { reports.new ≡ listed (frame_outcome (length reports.old) (received bytes.now) (view P.radio P.state self.old)).reports reports.old }
     {
-        if reports.len() < 288 {
-            return Err(short_list());
-        }
+        check_list(reports.len())?;
         let message = receive(bytes)?;
-        if let Some(refusal) = self.message_refusal(&message) {
-            return Err(refusal);
-        }
-        Ok(self.handle(&message, reports))
+        self.check_message(&message)?;
+        let mut sheet = Sheet::new(reports);
+        self.handle(&message, &mut sheet);
+        Ok(sheet.count())
     }
 }

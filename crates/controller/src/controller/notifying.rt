@@ -1,63 +1,39 @@
 // What is told on a UE's connections, by place.
-ghost use Rattle.controller.specs.Cancel.{spared};
-ghost use Rattle.controller.specs.Notices.{notice, told, notices_from};
-ghost use Rattle.controller.specs.Page.{page, write_all};
+ghost use Rattle.controller.specs.Notices.{told, notices_from};
+ghost use Rattle.controller.specs.Page.{Wrote};
 ghost use Rattle.controller.specs.View.{view};
 ghost use Rattle.rules.specs.Connections.{at_place};
-ghost use Rattle.std.specs.Prelude.{◌≡◌, [], ◌∷◌, if◌then◌else◌};
+ghost use Rattle.std.specs.Prelude.{◌≡◌};
 
 use crate::controller::Controller;
-use crate::notice::{Notice, notice_at};
-use crate::writing::put;
+use crate::writing::Sheet;
 use admission::RadioPool;
-use rules::report::Report;
-
-fn is_spared(except: Option<u8>, place: u8) -> bool
-    ensures { result ≡ spared except place }
-{
-    match except {
-        None => false,
-        Some(p) => place == p,
-    }
-}
+use rules::report::{Cause, ReportKind};
 
 impl<P: RadioPool> Controller<P> {
-    // A place is told, if it is the UE's and not left out.
-    fn notify_at(
-        &self,
-        place: u8,
-        ue: u32,
-        except: Option<u8>,
-        what: Notice,
-        reports: &mut [Report],
-        n: usize,
-    ) -> usize
-        ensures { page reports.new result ≡ write_all (if told except ue place (at_place place (view P.radio P.state self.now)) then notice what place ∷ [] else []) (page reports.old n) }
+    // A place is told if it is the UE's and not left out.
+    fn is_told(&self, place: u8, ue: u32, except: Option<u8>) -> bool
+        ensures { result ≡ told except ue place (at_place place (view P.radio P.state self.now)) }
     {
-        if !self.connections.is_of(place, ue) {
-            return n;
-        }
-        if is_spared(except, place) {
-            return n;
-        }
-        put(reports, n, notice_at(what, place))
+        self.connections.is_of(place, ue) && except != Some(place)
     }
 
-    // Each of the UE's connections is told by place, but for one that is left out.
+    // Each of the UE's connections is told by place, but for one that is left out. No RAB is named.
     pub(super) fn notify_on(
         &self,
         ue: u32,
         except: Option<u8>,
-        what: Notice,
-        reports: &mut [Report],
-        n: usize,
-    ) -> usize
-        ensures { page reports.new result ≡ write_all (notices_from what except ue 0 (view P.radio P.state self.now).connections) (page reports.old n) }
+        kind: ReportKind,
+        cause: Cause,
+        sheet: &mut Sheet<'_>,
+    )
+        ensures { Wrote (notices_from kind cause except ue 0 (view P.radio P.state self.now).connections) sheet.old sheet.new }
     {
-        let mut at = n;
+        // By number, since the reports are by place.
         for place in 0..16u8 {
-            at = self.notify_at(place, ue, except, what, reports, at);
+            if self.is_told(place, ue, except) {
+                sheet.tell(kind, place, 0, cause);
+            }
         }
-        at
     }
 }

@@ -1,17 +1,16 @@
 // The search for room: the admission set, the candidates of a pre-emption, and the victims.
 ghost use Rattle.admission.specs.Member.{member};
 ghost use Rattle.bearers.specs.Order.{bearer_good};
-ghost use Rattle.controller.specs.Chosen.{chosen_of, front_for};
+ghost use Rattle.controller.specs.Chosen.{front_for};
 ghost use Rattle.controller.specs.View.{view};
 ghost use Rattle.rules.specs.Connections.{opened, state_at};
 ghost use Rattle.rules.specs.Preemption.{own_grant, admitted, candidate};
-ghost use Rattle.std.specs.Prelude.{◌≡◌, true, IfSome};
+ghost use Rattle.std.specs.Prelude.{◌≡◌, true, IfSome, option_map};
 
 use crate::controller::Controller;
-use crate::victims::Victims;
 use admission::{GrantSet, RadioPool};
+use arrayvec::ArrayVec;
 use rules::bearer::{Bearer, Request};
-use rules::connection::ConnectionState;
 
 // What a search begins with: nothing for a set-up, the RAB's own grant for a modification.
 fn own_set(own: Option<Bearer>) -> GrantSet
@@ -30,7 +29,7 @@ impl<P: RadioPool> Controller<P> {
     pub(super) fn is_open(&self, place: u8) -> bool
         ensures { result ≡ opened (state_at place (view P.radio P.state self.now)) }
     {
-        matches!(self.connections.at(place).state, ConnectionState::Open)
+        self.connections.at(place).state.is_open()
     }
 
     // Whether a request would be admitted, a modification with its own grant given back.
@@ -49,30 +48,33 @@ impl<P: RadioPool> Controller<P> {
             && q.priority.level < level
             && b.priority.preemptable
             && self.is_open(b.place)
-            && !(b.place == q.place && b.rab == q.rab)
+            && (b.place, b.rab) != (q.place, q.rab)
     }
 
     // The candidates are added to the admission set one by one, level by level from 14 down, and in a level by place
     // and RAB ID; the search ends at the first set that gives room.
-    pub(super) fn victims(&self, q: &Request) -> Option<Victims>
-        ensures { chosen_of result ≡ front_for q.now (view P.radio P.state self.now) }
+    pub(super) fn victims(&self, q: &Request) -> Option<ArrayVec<Bearer, 64>>
+        ensures { option_map (λ v. v.items) result ≡ front_for q.now (view P.radio P.state self.now) }
     {
         let mut given = own_set(self.rabs.bearer(q.place, q.rab));
-        let mut victims = Victims::none();
-        let mut enough = false;
-        'levels: for level in (1..=14u8).rev() {
-            'table: for b in self.rabs.bearers() {
-                if !self.is_candidate(b, q, level) {
-                    continue;
-                }
-                victims.choose(*b);
-                given.insert(b.grant);
-                if self.pool.room(&given, q.size) {
-                    enough = true;
-                    break 'levels;
+        let mut victims = ArrayVec::new();
+        // The label ends both loops at once, when the grown set admits the size.
+        let found = 'search: {
+            'levels: for level in (1..=14u8).rev() {
+                'table: for b in self.rabs.bearers() {
+                    // Tried as a `filter` on the table's iterator: the check refuses such a loop in a loop.
+                    if !self.is_candidate(b, q, level) {
+                        continue;
+                    }
+                    victims.push(*b);
+                    given.insert(b.grant);
+                    if self.pool.room(&given, q.size) {
+                        break 'search true;
+                    }
                 }
             }
-        }
-        if enough { Some(victims) } else { None }
+            false
+        };
+        found.then_some(victims)
     }
 }

@@ -4,7 +4,7 @@ ghost use Rattle.controller.specs.View.{view};
 ghost use Rattle.rules.specs.Calls.{rab_state, size_in_use, question};
 ghost use Rattle.rules.specs.Connections.{at_place};
 ghost use Rattle.rules.specs.Relocation.{ticket_at};
-ghost use Rattle.rules.specs.Tables.{is_some, set_up_as, waits_as};
+ghost use Rattle.rules.specs.Tables.{is_some};
 ghost use Rattle.std.specs.Prelude.{◌≡◌};
 
 use crate::controller::Controller;
@@ -18,15 +18,11 @@ use rules::refusal::{Reason, Refusal};
 fn state_of(bearer: Option<Bearer>, request: Option<Request>) -> RabState
     ensures { result ≡ rab_state (is_some request) (size_in_use bearer) }
 {
-    match bearer {
-        None => match request {
-            None => RabState::Unknown,
-            Some(_) => RabState::Waiting,
-        },
-        Some(b) => match request {
-            None => RabState::SetUp(b.size),
-            Some(_) => RabState::SetUpWaiting(b.size),
-        },
+    match (bearer, request) {
+        (None, None) => RabState::Unknown,
+        (None, Some(_)) => RabState::Waiting,
+        (Some(b), None) => RabState::SetUp(b.size),
+        (Some(b), Some(_)) => RabState::SetUpWaiting(b.size),
     }
 }
 
@@ -76,7 +72,7 @@ impl<P: RadioPool> Controller<P> {
         &self.pool
     }
 
-    // The size of a grant, or 0 where it is not held.
+    // The size of a grant; 0 where it is not held, as the rules say it.
     pub fn held(&self, grant: u8) -> u8
         ensures { result ≡ P.radio.holds (view P.radio P.state self.now).pool grant }
     {

@@ -1,58 +1,42 @@
 // A release item on an open connection.
-ghost use Rattle.controller.specs.Gave.{Gave};
-ghost use Rattle.controller.specs.Page.{page};
-ghost use Rattle.controller.specs.View.{view};
-ghost use Rattle.rules.specs.Request.{release_unset, release};
+ghost use Rattle.controller.specs.Gave.{Did};
+ghost use Rattle.rules.specs.Request.{supersede, release_unset, release};
 ghost use Rattle.rules.specs.Tables.{waits_as};
 
 use crate::controller::Controller;
-use crate::writing::put;
+use crate::writing::Sheet;
 use admission::RadioPool;
-use rules::report::{Cause, Report, ReportKind};
+use rules::report::{Cause, ReportKind};
 
 impl<P: RadioPool> Controller<P> {
-    // A RAB that is not set up: released if it waited, else unknown.
-    fn release_unset(&mut self, place: u8, rab: u8, reports: &mut [Report], n: usize) -> usize
-        ensures { Gave (release_unset (waits_as place rab (view P.radio P.state self.old).queue) place rab (view P.radio P.state self.old)) (view P.radio P.state self.new) (page reports.old n) (page reports.new result) }
+    // The RAB's waiting request fails with cause 9, if it has one.
+    pub(super) fn supersede(&mut self, place: u8, rab: u8, sheet: &mut Sheet<'_>)
+        ensures { Did P.radio P.state (supersede place rab) self.old self.new sheet.old sheet.new }
     {
-        match self.rabs.request(place, rab) {
-            None => put(
-                reports,
-                n,
-                Report {
-                    kind: ReportKind::NotReleased,
-                    place,
-                    rab,
-                    cause: Cause::InvalidRabId,
-                    size: 0,
-                },
-            ),
-            Some(_) => {
-                let at = self.fail_waiting(Cause::RequestSuperseded, place, rab, reports, n);
-                put(
-                    reports,
-                    at,
-                    Report {
-                        kind: ReportKind::Released,
-                        place,
-                        rab,
-                        cause: Cause::NoCause,
-                        size: 0,
-                    },
-                )
-            }
+        self.fail_waiting(Cause::RequestSuperseded, place, rab, sheet);
+    }
+
+    // A RAB that is not set up: released if it waited, else unknown.
+    fn release_unset(&mut self, place: u8, rab: u8, sheet: &mut Sheet<'_>)
+        ensures { Did P.radio P.state (λ x. release_unset (waits_as place rab x.queue) place rab x) self.old self.new sheet.old sheet.new }
+    {
+        if self.rabs.request(place, rab).is_none() {
+            sheet.tell(ReportKind::NotReleased, place, rab, Cause::InvalidRabId);
+        } else {
+            self.supersede(place, rab, sheet);
+            sheet.tell(ReportKind::Released, place, rab, Cause::NoCause);
         }
     }
 
     // A waiting request is superseded, a grant is given back: kind 4 for a known RAB, kind 5 for an unknown one.
-    pub(super) fn release(&mut self, place: u8, rab: u8, reports: &mut [Report], n: usize) -> usize
-        ensures { Gave (release place rab (view P.radio P.state self.old)) (view P.radio P.state self.new) (page reports.old n) (page reports.new result) }
+    pub(super) fn release(&mut self, place: u8, rab: u8, sheet: &mut Sheet<'_>)
+        ensures { Did P.radio P.state (release place rab) self.old self.new sheet.old sheet.new }
     {
         match self.rabs.bearer(place, rab) {
-            None => self.release_unset(place, rab, reports, n),
+            None => self.release_unset(place, rab, sheet),
             Some(b) => {
-                let at = self.fail_waiting(Cause::RequestSuperseded, place, rab, reports, n);
-                self.drop_bearer(ReportKind::Released, Cause::NoCause, &b, reports, at)
+                self.supersede(place, rab, sheet);
+                self.drop_bearer(ReportKind::Released, Cause::NoCause, &b, sheet);
             }
         }
     }

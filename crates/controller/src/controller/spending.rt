@@ -1,7 +1,7 @@
 // The execution and the withdrawal of a relocation, each of which spends its ticket.
-ghost use Rattle.controller.specs.Gave.{Gave};
+ghost use Rattle.controller.specs.Checked.{Checks};
+ghost use Rattle.controller.specs.Gave.{Did};
 ghost use Rattle.controller.specs.Listed.{listed};
-ghost use Rattle.controller.specs.Page.{page};
 ghost use Rattle.controller.specs.Tickets.{id_of, handing_back};
 ghost use Rattle.controller.specs.View.{view};
 ghost use Rattle.rules.specs.Calls.{execute_answer, execute_outcome, withdraw_answer, withdraw_outcome};
@@ -10,11 +10,11 @@ ghost use Rattle.rules.specs.Relocation.{runs, ready, execute_of, give_back, wit
 ghost use Rattle.std.specs.Prelude.{◌≡◌, length};
 
 use crate::controller::Controller;
-use crate::refusing::{at_place, short_list};
+use crate::refusing::{at_place, check_list};
 use crate::ticket::Ticket;
+use crate::writing::Sheet;
 use admission::RadioPool;
-use bearers::Change;
-use rules::connection::{TicketId, TicketRecord};
+use rules::connection::{ConnectionState, TicketId, TicketRecord};
 use rules::refusal::{Reason, Refusal};
 use rules::report::{Cause, Report};
 
@@ -22,10 +22,7 @@ use rules::report::{Cause, Report};
 fn is_running(ticket: Option<TicketRecord>) -> bool
     ensures { result ≡ runs ticket }
 {
-    match ticket {
-        None => false,
-        Some(t) => t.running,
-    }
+    ticket.is_some_and(|t| t.running)
 }
 
 impl<P: RadioPool> Controller<P> {
@@ -40,23 +37,20 @@ impl<P: RadioPool> Controller<P> {
     fn is_ready(&self, ticket: Option<TicketRecord>) -> bool
         ensures { result ≡ ready ticket (view P.radio P.state self.now) }
     {
-        match ticket {
-            None => false,
-            Some(t) => t.running && self.connections.all_prepared(t.ue),
-        }
+        ticket.is_some_and(|t| t.running && self.connections.all_prepared(t.ue))
     }
 
-    // The first reason against an execution.
-    fn execute_refusal(&self, ticket: TicketId) -> Option<Refusal>
-        ensures { result ≡ execute_refusal ticket (view P.radio P.state self.now) }
+    // An execution is refused for the first reason against it.
+    fn check_execute(&self, ticket: TicketId) -> Result<(), Refusal>
+        ensures { Checks (execute_refusal ticket (view P.radio P.state self.now)) result }
     {
         if self.is_foreign(ticket) {
-            return Some(at_place(Reason::ForeignTicket, 0));
+            return Err(at_place(Reason::ForeignTicket, 0));
         }
         if !self.is_ready(self.tickets.at(ticket.number)) {
-            return Some(at_place(Reason::NotPrepared, 0));
+            return Err(at_place(Reason::NotPrepared, 0));
         }
-        None
+        Ok(())
     }
 
     // The ticket's connections are executed.
@@ -64,7 +58,7 @@ impl<P: RadioPool> Controller<P> {
         ensures { view P.radio P.state self.new ≡ execute_of ticket (view P.radio P.state self.old) }
     {
         if let Some(t) = ticket {
-            self.connections.change(t.ue, Change::Execute);
+            self.connections.change(t.ue, |_| ConnectionState::Executed);
         }
     }
 
@@ -81,7 +75,7 @@ impl<P: RadioPool> Controller<P> {
         ensures state { view P.radio P.state self.new ≡ (execute_outcome (id_of ticket) (view P.radio P.state self.old)).state }
     {
         let id = ticket.id();
-        if let Some(refusal) = self.execute_refusal(id) {
+        if let Err(refusal) = self.check_execute(id) {
             return Err((ticket, refusal));
         }
         let kept = self.tickets.at(id.number);
@@ -91,43 +85,40 @@ impl<P: RadioPool> Controller<P> {
         Ok(())
     }
 
-    // The first reason against a withdrawal.
-    fn withdraw_refusal(&self, places: usize, ticket: TicketId) -> Option<Refusal>
-        ensures { result ≡ withdraw_refusal places ticket (view P.radio P.state self.now) }
+    // A withdrawal is refused for the first reason against it.
+    fn check_withdraw(&self, records: usize, ticket: TicketId) -> Result<(), Refusal>
+        ensures { Checks (withdraw_refusal records ticket (view P.radio P.state self.now)) result }
     {
-        if places < 288 {
-            return Some(short_list());
-        }
+        check_list(records)?;
         if self.is_foreign(ticket) {
-            return Some(at_place(Reason::ForeignTicket, 0));
+            return Err(at_place(Reason::ForeignTicket, 0));
         }
-        None
+        Ok(())
     }
 
     // What runs is called off: kind 9 with cause 5.
-    fn call_off(&mut self, ticket: Option<TicketRecord>, reports: &mut [Report]) -> usize
-        ensures { Gave (withdraw_of ticket (view P.radio P.state self.old)) (view P.radio P.state self.new) (page reports.old 0) (page reports.new result) }
+    fn call_off(&mut self, ticket: Option<TicketRecord>, sheet: &mut Sheet<'_>)
+        ensures { Did P.radio P.state (withdraw_of ticket) self.old self.new sheet.old sheet.new }
     {
-        match ticket {
-            Some(t) if t.running => {
-                self.cancel_all(Cause::RelocationCancelled, t.ue, reports, 0)
-            }
-            _ => 0,
+        if let Some(t) = ticket
+            && t.running
+        {
+            self.cancel_all(Cause::RelocationCancelled, t.ue, sheet);
         }
     }
 
     // The relocation of a ticket's number is withdrawn, and the number is free again.
-    fn withdraw_number(&mut self, number: u8, reports: &mut [Report]) -> usize
-        ensures { Gave (withdraw number (view P.radio P.state self.old)) (view P.radio P.state self.new) (page reports.old 0) (page reports.new result) }
+    fn withdraw_number(&mut self, number: u8, sheet: &mut Sheet<'_>)
+        ensures { Did P.radio P.state (withdraw number) self.old self.new sheet.old sheet.new }
     {
         let kept = self.tickets.at(number);
-        let at = self.call_off(kept, reports);
+        self.call_off(kept, sheet);
         self.give_back(number);
-        at
     }
 
     // A relocation is withdrawn. Whether it still ran is answered, and the count of reports: they stand
     // in the first places of the list, and the others hold what they held. A refusal hands the ticket back.
+    // The pair is a public answer, as the rules give it.
     pub fn withdraw(
         &mut self,
         ticket: Ticket,
@@ -138,12 +129,13 @@ impl<P: RadioPool> Controller<P> {
         ensures list { reports.new ≡ listed (withdraw_outcome (length reports.old) (id_of ticket) (view P.radio P.state self.old)).reports reports.old }
     {
         let id = ticket.id();
-        if let Some(refusal) = self.withdraw_refusal(reports.len(), id) {
+        if let Err(refusal) = self.check_withdraw(reports.len(), id) {
             return Err((ticket, refusal));
         }
         let ran = is_running(self.tickets.at(id.number));
-        let count = self.withdraw_number(id.number, reports);
+        let mut sheet = Sheet::new(reports);
+        self.withdraw_number(id.number, &mut sheet);
         ticket.spend();
-        Ok((ran, count))
+        Ok((ran, sheet.count()))
     }
 }

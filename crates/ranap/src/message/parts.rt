@@ -12,10 +12,10 @@ impl Message {
         ensures { result ≡ place_of (saying self.now) }
     {
         match self {
-            Message::RabAssignmentRequest(place, _) => *place,
-            Message::IuReleaseCommand(place) => *place,
-            Message::RelocationCommand(place) => *place,
-            Message::RelocationPreparationFailure(place) => *place,
+            Message::RabAssignmentRequest(place, _)
+            | Message::IuReleaseCommand(place)
+            | Message::RelocationCommand(place)
+            | Message::RelocationPreparationFailure(place) => *place,
         }
     }
 

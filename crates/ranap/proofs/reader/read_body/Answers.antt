@@ -1,19 +1,29 @@
-use Rattle.std.proofs.Common.{◌≡◌, ℕ, ◌+◌, ◌*◌, length, Some, None, Ok, Option, sym, refl, ap, ◌∙◌, subst, arith}
-use Rattle.ranap.proofs.PairsScan.{PairVerdict, pairs_told}
 use Rattle.ranap.proofs.reader.read_body.Goals as goal
-use Rattle.ranap.specs.Steps.{unless_fault}
-use Rattle.rules.specs.Frame.{pairs_of, pair_fault}
+use Rattle.ranap.specs.Steps.{unless_fault, pair_in, pairs_in}
+use Rattle.rules.specs.Frame.{pair_fault, pair_good, end_of}
+use Rattle.std.proofs.Common.{◌≡◌, ℕ, ◌+◌, ◌*◌, ◌≤◌, Bool, true, false, cond, List, [], ◌∷◌, All, Some, Ok, Option, length, refl, arith}
+use Rattle.std.proofs.lemmas.List.Elements.{All-nil, All-cons}
+use Rattle.std.proofs.lemmas.Bool.Decides.{nat_tests}
 
--- no refusal, so no fault
-no_fault_then : (o : Option ℕ) → Ok tt ≡ unless_fault o → o ≡ None
-no_fault_then None e = refl
-no_fault_then (Some p) e = let z : ◌≡◌ {A = ℕ} 0 1 = cc in absurd (omega arith)
+abbrev Ends : ℕ → List ℕ → Type 0
+Ends end bs = end_of (pair_in bs) ≤ end
 
-pub read_items-requires : goal.read_items-requires
-read_items-requires c =
-    let bs = c.args.frame.now in
-    let n = c.args.count in
-    let none = no_fault_then (pair_fault (length bs) 0 (4 + 4 * n) (pairs_of bs n)) c.in_ok-check_pairs.ensures in
-    let from = ap (λ k. pair_fault (length bs) 0 (4 + 4 * k) (pairs_of bs n)) c.requires.0 in
-    let all : PairVerdict bs n None = subst (PairVerdict bs n) (sym from ∙ none) (pairs_told bs n) in
-    (c.requires.1.0, (c.requires.1.1, λ i l. (all i l).inside))
+-- what is not refused passes the test, and is not refused further on
+no_fault : (b : Bool) (o : Option ℕ) (p : ℕ) → Ok tt ≡ unless_fault (cond b o (Some p)) → (b ≡ true) × (Ok tt ≡ unless_fault o)
+no_fault true o p e = (refl, e)
+no_fault false o p e = cc
+
+good_ends : (end from : ℕ) (bs : List ℕ) → pair_good end from (pair_in bs) ≡ true → Ends end bs
+good_ends end from bs e = grind (arith, nat_tests)
+
+-- no refusal, so every item ends in the frame
+all_inside : (end i from : ℕ) (bss : List (List ℕ)) → Ok tt ≡ unless_fault (pair_fault end i from (pairs_in bss)) → All (Ends end) bss
+all_inside end i from [] e = All-nil (Ends end)
+all_inside end i from (bs ∷ bss) e =
+    let h = no_fault (pair_good end from (pair_in bs)) (pair_fault end (i + 1) (end_of (pair_in bs)) (pairs_in bss)) (4 + 4 * i) e in
+    All-cons (Ends end) bs bss (good_ends end from bs h.0) (all_inside end (i + 1) (end_of (pair_in bs)) bss h.1)
+
+pub read_items-requires-clause-inside : goal.read_items-requires-clause-inside
+read_items-requires-clause-inside c =
+    let bss = c.pairs_of-pairs.result.now in
+    all_inside (length c.args.frame.now) 0 (4 + 4 * length bss) bss c.in_ok-check_pairs.ensures

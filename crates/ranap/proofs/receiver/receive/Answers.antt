@@ -1,10 +1,10 @@
 use Rattle.ranap.proofs.Receipt.{receives}
 use Rattle.ranap.proofs.receiver.receive.Goals as goal
-use Rattle.ranap.specs.Distinct.{Receives}
-use Rattle.std.proofs.Common.{sym, subst}
+use Rattle.ranap.specs.View.{saying}
+use Rattle.std.proofs.Common.{Ok, rules}
 
-pub returns : goal.returns
-returns c = record {
-  answer = c.read_and_check.ensures;
-  accepted = subst (Receives c.args.frame.now) (sym c.read_and_check.ensures) (receives c.args.frame.now);
-}
+pub returns-in_err-message-clause-accepted : goal.returns-in_err-message-clause-accepted
+returns-in_err-message-clause-accepted c = receives c.args.frame.now _ (search rules)
+
+pub returns-clause-accepted : goal.returns-clause-accepted
+returns-clause-accepted c = receives c.args.frame.now (Ok (saying c.in_ok-message.message)) (search rules)

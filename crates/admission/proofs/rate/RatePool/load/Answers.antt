@@ -1,19 +1,26 @@
-use Rattle.std.proofs.Common.{◌≡◌, ℕ, ◌+◌, ◌≤◌, get_or, sym, arith, rules}
+use Rattle.std.proofs.Common.{ℕ, ◌^◌, Bool, not, ◌∙◌, arith, rules, tests}
+use Rattle.std.proofs.lemmas.Iterator.{YieldsList-from_range, YieldsList-from_map}
+use Rattle.std.proofs.lemmas.Iterator.Adapters.{at_most_from_Filter, at_most_from_yields_List, fits_from_length}
+use Rattle.std.proofs.lemmas.Iterator.Consumers.{YieldsList-from_filter, YieldsList-at, sum_by_from_yields_List}
 use Rattle.admission.specs.Member.{member}
-use Rattle.admission.specs.Sums.{total, without}
-use Rattle.admission.specs.Views.{rate_of}
-use Rattle.admission.specs.Totals.{total_none, total_more}
+use Rattle.admission.specs.Views.{size_of}
+use Rattle.admission.proofs.Loads.{sum_is_total}
 use Rattle.admission.proofs.rate.RatePool.load.Goals as goal
-use Rattle.admission.proofs.rate.RatePool.load.Goals.{then-not-contains, else-not-contains}
 
-pub loop-grant-init : goal.loop-grant-init
-loop-grant-init c = (sym (total_none _), omega arith)
+-- at most 64 sizes, each a byte
+pub sum-requires-clause-fits : goal.sum-requires-clause-fits
+sum-requires-clause-fits c =
+    fits_from_length _ _ 64 (2 ^ 16) (at_most_from_Filter _ (at_most_from_yields_List (YieldsList-from_range 0 64 64 (cc) (omega arith)) (omega arith)))
+    c.map.ensures.closure (omega arith) (λ x r q k. search (rules, tests))
 
-pub loop-grant-preserved : goal.loop-grant-preserved
-loop-grant-preserved c =
-    let f : ℕ → ℕ = without (member c.args.given.now) (rate_of c.args.self.now).sizes in
-    let step : total f (c.loop-grant.grant + 1) ≡ total f c.loop-grant.grant + f c.loop-grant.grant = total_more f c.loop-grant.grant in
-    elim c.if-not-contains.branch [
-      | then-not-contains w ↦ let small : get_or c.args.self.now.sizes c.loop-grant.grant 0 ≤ 255 = search rules in grind arith
-      | else-not-contains w ↦ grind arith
-    ]
+pub returns : goal.returns
+returns c =
+    let sizes : ℕ → ℕ = size_of c.args.self.now.sizes in
+    let named : ℕ → Bool = member c.args.given.now in
+    sum_by_from_yields_List _ _ c.map.result c.sum.result c.sum.ensures.ran
+    (YieldsList-from_map _ sizes
+    (YieldsList-at c.map.ensures.source
+    (YieldsList-from_filter _ (λ k. not (named k))
+    (YieldsList-at c.filter.ensures.source (YieldsList-from_range 0 64 64 (cc) (omega arith)))
+    c.filter.ensures.closure (λ x b q k. search (rules, tests))))
+    c.map.ensures.closure (λ x r q k. search (rules, tests))) ∙ sum_is_total named sizes 64

@@ -1,6 +1,10 @@
-use Rattle.std.proofs.Common.{◌≡◌, length}
-use Rattle.admission.proofs.Leaves.{named_in, OutTill}
+use Rattle.std.proofs.Common.{◌≡◌, ℕ, ◌<◌, ◌≤◌, slice_index_or, None}
+use Rattle.admission.specs.Tree.{left_by}
 use Rattle.admission.proofs.tree.CodeTree.move_out.Given as goal
 
-abbrev pub invariant-loop-leaf : goal.invariant-loop-leaf
-invariant-loop-leaf l = OutTill l.leaf l.grant (named_in l.initial.self.owners) l.self.owners × (l.self.sizes ≡ l.initial.self.sizes) × (length l.self.owners ≡ 256)
+-- the leaves so far are cleared of the grant, and the others are as they were
+abbrev pub invariant-loop-owner : goal.invariant-loop-owner
+invariant-loop-owner l = record {
+  cleared : (k : ℕ) → k < l.owner-index → slice_index_or l.owner-items k None ≡ left_by l.grant (slice_index_or l.initial.owner-items k None);
+  kept : (k : ℕ) → l.owner-index ≤ k → slice_index_or l.owner-items k None ≡ slice_index_or l.initial.owner-items k None;
+}

@@ -1,26 +1,19 @@
-use Rattle.std.proofs.Common.{◌≡◌, ℕ, ◌+◌, ◌<◌, Bool, true, false, ◌||◌, List, length, get_or, drop, sym, ap, ◌∙◌, arith}
+use Rattle.std.proofs.Common.{rules, ◌&&◌, ◌∙◌, Bool, true, false, arith}
+use Rattle.rules.specs.Connections.{of_ue}
+use Rattle.bearers.proofs.Anys.{any_connection_is}
+use Rattle.bearers.specs.Closures.{AnswersOfUe}
 use Rattle.bearers.proofs.connections.Connections.has.Goals as goal
-use Rattle.bearers.specs.Places.{such}
-use Rattle.rules.specs.Connections.{vacant, any_connection}
 use Rattle.rules.specs.declared.connection.Connection.{Connection}
-use Rattle.std.proofs.lemmas.List.{at_drop_more, at_drop_all}
+use Rattle.std.proofs.lemmas.Iterator.{YieldsList-from_slice, cases_from_any}
+use Rattle.std.proofs.lemmas.Iterator.Search.{any_from_yields_List}
+use Rattle.std.proofs.lemmas.Grind.{common_steps}
+use Rattle.std.specs.Fn.{FnReturnsAt}
+use borrow.Author.Tests.{tests}
 
--- the search one connection further
-step : (test : Connection → Bool) (cs : List Connection) (i : ℕ) (b : Bool) → i < length cs → test (get_or cs i vacant) ≡ b →
-    any_connection test (drop i cs) ≡ (b || any_connection test (drop (i + 1) cs))
-step test cs i b l e = at_drop_more (any_connection test) cs i vacant l ∙ ap (λ v. v || any_connection test (drop (i + 1) cs)) e
+pub returns-clause-by_function : goal.returns-clause-by_function
+returns-clause-by_function g c = λ t computes. any_from_yields_List (λ k. of_ue c.args.ue k && t k) _ _ _ c.any.ensures.ran (YieldsList-from_slice c.args.self.now.all cc) (λ x b q k. (search (rules, tests), grind (arith, common_steps, computes))) ∙ (any_connection_is (λ k. of_ue c.args.ue k && t k) c.args.self.now.all)
 
-pub returns-then-is_such : goal.returns-then-is_such
-returns-then-is_such c =
-    let test = such c.args.which c.args.ue in
-    sym (step test c.args.self.now.all c.loop-c.c-index true (omega (arith, c.loop-c-test.true, c.args.self.now.wide)) (sym c.if-is_such.ensures)) ∙ c.loop-c.invariant
-
-pub loop-c-preserved : goal.loop-c-preserved
-loop-c-preserved c =
-    let test = such c.args.which c.args.ue in
-    sym (step test c.args.self.now.all c.loop-c.c-index false (omega (arith, c.loop-c-test.true, c.args.self.now.wide)) (sym c.if-is_such.ensures)) ∙ c.loop-c.invariant
-
-pub returns : goal.returns
-returns c =
-    let test = such c.args.which c.args.ue in
-    sym (at_drop_all (any_connection test) c.args.self.now.all c.loop-c.c-index (omega (arith, c.loop-c-test.false, c.args.self.now.wide))) ∙ c.loop-c.invariant
+pub returns-clause-each : goal.returns-clause-each
+returns-clause-each g c =
+    let answers : Connection → Bool → Type 0 = AnswersOfUe c.args.ue (FnReturnsAt g.F.Fn c.args.test) in
+    cases_from_any _ _ c.any.result (λ k. answers k true) (λ k. answers k false) c.any.ensures.ran (YieldsList-from_slice c.args.self.now.all cc) (λ x q k. search (rules, tests)) (λ x q k. (search (rules, tests), search (rules, tests)))

@@ -13,9 +13,9 @@ pub assign_anew-requires : goal.assign_anew-requires
 assign_anew-requires g c =
     let x = view g.P.RadioPool.radio g.P.RadioPool.state c.args.self.now in
     let t = c.args.self.now.rabs in
-    ap (λ y. waits_as c.args.place c.args.a.now.rab y.queue) c.fail_waiting-at.ensures.state ∙
+    ap (λ y. waits_as c.args.place c.args.a.now.rab y.queue) c.supersede.ensures.state ∙
     waits_no_more RequestSuperseded c.args.place c.args.a.now.rab x (apart_from (queue_of t) t.single)
 
 pub returns : goal.returns
 unfolding assign
-returns g c = gave_then (assign_anew c.args.place c.args.a.now) c.fail_waiting-at.ensures c.assign_anew.ensures
+returns g c = gave_then (assign_anew c.args.place c.args.a.now) c.supersede.ensures c.assign_anew.ensures

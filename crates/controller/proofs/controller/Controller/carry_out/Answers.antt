@@ -2,7 +2,6 @@ use Rattle.controller.proofs.Gaves.{gave_then}
 use Rattle.controller.proofs.Readies.{ready_after}
 use Rattle.controller.proofs.controller.Controller.carry_out.Goals as goal
 use Rattle.controller.specs.Gave.{Gave}
-use Rattle.controller.specs.Page.{page}
 use Rattle.controller.specs.Turn.{Ready}
 use Rattle.controller.specs.View.{view}
 use Rattle.rules.specs.Actions.{establish}
@@ -18,7 +17,7 @@ establish-requires g c =
     let q = c.args.q.now in
     let t = c.args.self.now.rabs in
     let freed = c.free_own.ensures ∙ ap (λ o. free_own o x) c.bearer-own.ensures.answer in
-    let after = c.pre_empt_all-at.ensures.state ∙ ap (λ y. (each pre_empt c.args.victims.now y).state) freed in
+    let after = c.pre_empt_all.ensures.state ∙ ap (λ y. (each pre_empt c.args.victims.now y).state) freed in
     subst (Ready q) (sym after) (ready_after q c.args.victims.now x (record { sorted = t.sorted; single = t.single; few = t.few; ranges = t.ranges }) c.requires)
 
 pub returns : goal.returns
@@ -28,5 +27,5 @@ returns g c =
     let s = g.P.RadioPool.state in
     let x = view m s c.args.self.now in
     let freed = c.free_own.ensures ∙ ap (λ o. free_own o x) c.bearer-own.ensures.answer in
-    let first = subst (λ y. Gave (each pre_empt c.args.victims.now y) (view m s c.pre_empt_all-at.new.self) (page c.args.reports.now c.args.n) (page c.pre_empt_all-at.new.reports c.pre_empt_all-at.result)) freed c.pre_empt_all-at.ensures in
+    let first = subst (λ y. Gave (each pre_empt c.args.victims.now y) (view m s c.pre_empt_all.new.self) c.args.sheet.now c.pre_empt_all.new.sheet) freed c.pre_empt_all.ensures in
     gave_then (establish c.args.q.now) first c.establish.ensures

@@ -1,7 +1,6 @@
 use Rattle.bearers.specs.View.{bearers_of}
 use Rattle.controller.proofs.Gaves.{Toward}
 use Rattle.controller.proofs.controller.Controller.drop_place.Given as goal
-use Rattle.controller.specs.Page.{page}
 use Rattle.controller.specs.View.{view}
 use Rattle.rules.specs.Events.{drop_place}
 use Rattle.std.proofs.Common.{length}
@@ -11,7 +10,7 @@ abbrev pub invariant-loop-b : goal.invariant-loop-b
 invariant-loop-b g l =
     let m = g.P.RadioPool.radio in
     let s = g.P.RadioPool.state in
-    Toward (drop_place l.place (view m s l.self)) (page l.reports l.at) (drop_place l.place (view m s l.initial.self)) (page l.initial.reports l.n)
+    Toward (drop_place l.place (view m s l.self)) l.sheet (drop_place l.place (view m s l.initial.self)) l.initial.sheet
 
 -- each turn takes one out of the table
 abbrev pub decreases-loop-b : goal.decreases-loop-b

@@ -1,33 +1,30 @@
-use Rattle.std.proofs.Common.{◌≡◌, ◌<◌, ◌≤◌, true, false, length, get_or, Some, sym, ap, ◌∙◌, subst}
-use Rattle.bearers.proofs.Firsts.{blank_request}
-use Rattle.bearers.proofs.Mapped.{of_more, of_here, of_none}
+use Rattle.controller.proofs.Served.{at_waits}
 use Rattle.controller.proofs.controller.Controller.first_meant.Goals as goal
 use Rattle.controller.specs.View.{view}
-use Rattle.controller.specs.Whose.{meant}
+use Rattle.rules.specs.Tables.{is_some, waits_as}
+use Rattle.rules.specs.declared.bearer.Request.{Request}
+use Rattle.std.proofs.Common.{◌≡◌, ℕ, ◌<◌, true, List, length, Some, None, Option, Bor, sym, ◌∙◌, subst, arith, rules, tests}
+use Rattle.std.proofs.lemmas.Grind.{common_steps}
+use Rattle.std.proofs.lemmas.Iterator.{YieldsList-from_slice, first_from_find}
+use Rattle.std.proofs.lemmas.Iterator.Search.{find_from_yields_List}
+use Rattle.std.specs.Bool.{⊤}
+use Rattle.std.specs.List.{AllWithin, HoldsAt}
+use Rattle.std.specs.Option.{IfSome, MatchOption, option_copied}
 
-pub returns-then-is_meant : goal.returns-then-is_meant
-returns-then-is_meant g c =
-    let x = view g.P.RadioPool.radio g.P.RadioPool.state c.args.self.now in
-    let w = c.args.whose in
-    let i = c.loop-q.q-index in
-    let it = c.queue-q-items.ensures.answer in
-    let l : i < length x.queue = subst (λ xs. i < length xs) it c.loop-q-test.true in
-    let on : meant w x (get_or x.queue i blank_request) ≡ true = sym (c.if-is_meant.ensures ∙ ap (λ xs. meant w x (get_or xs i blank_request)) it) in
-    ap (λ xs. Some (get_or xs i blank_request)) it ∙ sym (of_here (meant w x) x.queue i blank_request l on) ∙ c.loop-q.invariant
+-- what a search of the queue finds waits
+found : (qs : List Request) (r : Option (Bor Request)) →
+    MatchOption r (AllWithin (λ q. ⊤) qs 0 (length qs)) (λ q. ⊤ × (i : ℕ) × (i < length qs) × HoldsAt (λ y. y ≡ q.now) qs i × AllWithin (λ q. ⊤) qs 0 i) →
+    IfSome (option_copied r) (λ q. is_some (waits_as q.place q.rab qs) ≡ true)
+found qs None h = tt
+found qs (Some q) h = at_waits qs q.now h.1 h.2 (h.3 q.now)
 
-pub loop-q-preserved : goal.loop-q-preserved
-loop-q-preserved g c =
+pub returns-clause-first : goal.returns-clause-first
+returns-clause-first g c = λ t gives.
     let x = view g.P.RadioPool.radio g.P.RadioPool.state c.args.self.now in
-    let w = c.args.whose in
-    let i = c.loop-q.q-index in
-    let it = c.queue-q-items.ensures.answer in
-    let l : i < length x.queue = subst (λ xs. i < length xs) it c.loop-q-test.true in
-    let off : meant w x (get_or x.queue i blank_request) ≡ false = sym (c.if-is_meant.ensures ∙ ap (λ xs. meant w x (get_or xs i blank_request)) it) in
-    sym (of_more (meant w x) x.queue i blank_request l off) ∙ c.loop-q.invariant
+    c.copied.ensures ∙ find_from_yields_List (λ q. t x.connections q.place) _ _ c.find.result c.find.ensures.ran (YieldsList-from_slice x.queue (cc)) (λ q b f k. (search (rules, tests), grind (arith, common_steps, gives)))
 
-pub returns : goal.returns
-returns g c =
-    let x = view g.P.RadioPool.radio g.P.RadioPool.state c.args.self.now in
-    let i = c.loop-q.q-index in
-    let past : length x.queue ≤ i = subst (λ xs. length xs ≤ i) c.queue-q-items.ensures.answer c.loop-q-test.false in
-    sym (of_none (meant c.args.whose x) x.queue i past) ∙ c.loop-q.invariant
+pub returns-clause-waits : goal.returns-clause-waits
+returns-clause-waits g c =
+    let qs = (view g.P.RadioPool.radio g.P.RadioPool.state c.args.self.now).queue in
+    subst (λ o. IfSome o (λ q. is_some (waits_as q.place q.rab qs) ≡ true)) (sym c.copied.ensures)
+    (found qs c.find.result (first_from_find _ _ c.find.result (λ q. ⊤) (λ q. ⊤) c.find.ensures.ran (YieldsList-from_slice qs (cc)) (λ q f k. tt) (λ q f k. search (rules, tests))))

@@ -11,6 +11,6 @@ pub returns : goal.returns
 unfolding iu_release
 returns g c =
     let p = c.args.place in
-    gave_then (λ y. then (fail_all IuReleased (waits_at p) y) λ z. then (drop_place p z) λ w. serve (close p w)) c.end_if_running-ended.ensures
-    (gave_then (λ z. then (drop_place p z) λ w. serve (close p w)) c.fail_all_at-failed.ensures
-    (gave_then (λ w. serve (close p w)) c.drop_place-dropped.ensures c.close_and_serve.ensures))
+    gave_then (λ y. then (fail_all IuReleased (waits_at p) y) λ z. then (drop_place p z) λ w. serve (close p w)) c.end_if_running.ensures
+    (gave_then (λ z. then (drop_place p z) λ w. serve (close p w)) c.fail_all_at.ensures
+    (gave_then (λ w. serve (close p w)) c.drop_place.ensures c.close_and_serve.ensures))

@@ -18,4 +18,4 @@ unfolding release
 returns-in-Some g c =
     let x = view g.P.RadioPool.radio g.P.RadioPool.state c.args.self.now in
     gave_as (ap (λ o. release_known o c.args.place c.args.rab x) c.in-Some.ensures.answer)
-    (gave_then (drop_bearer kind.Released cause.NoCause c.in-Some.b) c.fail_waiting-at.ensures c.drop_bearer.ensures)
+    (gave_then (drop_bearer kind.Released cause.NoCause c.in-Some.b) c.supersede.ensures c.drop_bearer.ensures)

@@ -1,16 +1,15 @@
 use Rattle.controller.proofs.Notified.{none_spared}
 use Rattle.controller.proofs.controller.Controller.require_on.Goals as goal
-use Rattle.controller.specs.Page.{page, write_all}
+use Rattle.controller.specs.Page.{Wrote}
 use Rattle.controller.specs.View.{view}
 use Rattle.rules.specs.Connections.{places_of}
 use Rattle.rules.specs.Relocation.{required}
-use Rattle.std.proofs.Common.{map, ap, ◌∙◌}
+use Rattle.std.proofs.Common.{map, subst}
 
 pub returns : goal.returns
 returns g c =
     let x = view g.P.RadioPool.radio g.P.RadioPool.state c.args.self.now in
-    let before = page c.args.reports.now c.args.n in
     record {
       state = c.run_relocation.ensures;
-      page = c.notify_on-at.ensures ∙ ap (λ ps. write_all (map required ps) before) (none_spared (places_of c.args.ue x));
+      wrote = subst (λ ps. Wrote (map required ps) c.args.sheet.now c.notify_on.new.sheet) (none_spared (places_of c.args.ue x)) c.notify_on.ensures;
     }

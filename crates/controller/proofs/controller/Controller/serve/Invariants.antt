@@ -1,14 +1,17 @@
-use Rattle.std.proofs.Common.{◌+◌, ◌≤◌, length}
+use Rattle.bearers.specs.View.{queue_of}
 use Rattle.controller.proofs.Gaves.{Toward}
 use Rattle.controller.proofs.controller.Controller.serve.Given as goal
-use Rattle.controller.specs.Page.{page}
 use Rattle.controller.specs.View.{view}
-use Rattle.rules.specs.Queue.{serve, serve_up_to}
+use Rattle.rules.specs.Queue.{serve}
+use Rattle.std.proofs.Common.{length}
 
--- serving from here on leads to the outcome of the whole, and there are turns enough for those that still wait
-abbrev pub invariant-loop-turn : goal.invariant-loop-turn
-invariant-loop-turn g l =
+-- serving from here on leads to the outcome of the whole
+abbrev pub invariant-loop-q : goal.invariant-loop-q
+invariant-loop-q g l =
     let m = g.P.RadioPool.radio in
     let s = g.P.RadioPool.state in
-    let x = view m s l.self in
-    Toward (serve_up_to (length x.queue) x) (page l.reports l.at) (serve (view m s l.initial.self)) (page l.initial.reports l.n) × (length x.queue + l.turn ≤ 64)
+    Toward (serve (view m s l.self)) l.sheet (serve (view m s l.initial.self)) l.initial.sheet
+
+-- each turn takes one out of the queue
+abbrev pub decreases-loop-q : goal.decreases-loop-q
+decreases-loop-q g l = length (queue_of l.self.rabs)

@@ -1,14 +1,11 @@
 use Rattle.controller.proofs.Served.{served_waitable}
 use Rattle.controller.proofs.controller.Controller.serve_one.Goals as goal
 use Rattle.controller.proofs.controller.Controller.serve_one.Goals.{After-remove_request}
-use Rattle.controller.specs.Gave.{Gave}
-use Rattle.controller.specs.Page.{page}
 use Rattle.controller.specs.Turn.{Waitable}
 use Rattle.controller.specs.View.{view}
-use Rattle.rules.specs.Request.{done}
-use Rattle.rules.specs.State.{State, at_queue}
+use Rattle.rules.specs.State.{State}
 use Rattle.rules.specs.Tables.{without_request}
-use Rattle.std.proofs.Common.{◌≡◌, [], sym, subst}
+use Rattle.std.proofs.Common.{◌≡◌, sym, subst}
 
 pub carry_out-requires : goal.carry_out-requires
 carry_out-requires g c =
@@ -23,15 +20,3 @@ carry_out-requires g c =
     λ i. record { number = x.number; connections = x.connections; bearers = sym c.remove_request.ensures.bearers i; queue = sym c.remove_request.ensures.queue i; tickets = x.tickets; pool = x.pool }
     in
     subst (Waitable q) left w
-
-pub returns : goal.returns
-returns g c =
-    let m = g.P.RadioPool.radio in
-    let s = g.P.RadioPool.state in
-    let x = view m s c.args.self.now in
-    let q = c.args.q.now in
-    let left : ◌≡◌ {A = State m} (view m s (record { number = c.args.self.now.number; connections = c.args.self.now.connections; rabs = c.remove_request.new.self; tickets = c.args.self.now.tickets; pool = c.args.self.now.pool }))
-    (at_queue x (without_request q.place q.rab x.queue)) =
-    λ i. record { number = x.number; connections = x.connections; bearers = c.remove_request.ensures.bearers i; queue = c.remove_request.ensures.queue i; tickets = x.tickets; pool = x.pool }
-    in
-    subst (λ y. Gave (done q [] y) (view m s c.carry_out.new.self) (page c.args.reports.now c.args.n) (page c.carry_out.new.reports c.carry_out.result)) left c.carry_out.ensures

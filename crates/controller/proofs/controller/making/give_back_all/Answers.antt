@@ -1,5 +1,5 @@
 use Rattle.controller.proofs.controller.making.give_back_all.Goals as goal
-use Rattle.std.proofs.Common.{◌≡◌, sym, refl, ap, ◌∙◌, add-one, arith}
+use Rattle.std.proofs.Common.{sym, refl, ap, ◌∙◌, add-one, arith}
 use Rattle.rules.specs.Calls.{given_back}
 use Rattle.rules.specs.Radio.{after_give}
 
@@ -16,8 +16,3 @@ loop-grant-preserved g c =
       c.give.ensures.state ∙ ap (λ z. after_give m z k) c.loop-grant.invariant.0 ∙ ap (λ n. given_back m n y) (sym (add-one k)),
       omega (arith, c.loop-grant-test.true),
     )
-
-pub returns : goal.returns
-returns g c =
-    let past : c.loop-grant.grant ≡ 64 = omega (arith, c.loop-grant-test.false, c.loop-grant.invariant.1) in
-    c.loop-grant.invariant.0 ∙ ap (λ n. given_back g.P.RadioPool.radio n (g.P.RadioPool.state c.args.pool.now)) past

@@ -1,8 +1,0 @@
-use Rattle.std.proofs.Common.{◌≤◌, length, sym, arith}
-use Rattle.bearers.proofs.tickets.Tickets.put.Goals as goal
-use Rattle.std.proofs.lemmas.List.{set_past}
-
-pub returns-else-number-lt16 : goal.returns-else-number-lt16
-returns-else-number-lt16 c =
-    let past : length c.args.self.now.all ≤ c.args.number = omega (arith, c.args.self.now.wide, c.if-number-lt16.false) in
-    sym (set_past c.args.self.now.all c.args.number c.args.ticket past)
