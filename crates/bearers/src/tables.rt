@@ -10,6 +10,7 @@ mod lookups;
 
 // Room for 64 of each is made once on the heap: no later call wants memory, as an insert into a BTreeMap would,
 // and the struct stays small on the stack, as with two ArrayVecs of 64 it would not.
+// No Model: a clause speaks of one of the two tables, by `bearers_of` or `queue_of`.
 #[derive(Drop)]
 pub struct RabTables {
     bearers: Vec<Bearer>,

@@ -5,7 +5,7 @@ use controller::Controller;
 use rules::refusal::Refusal;
 use std::test::*;
 
-// The same of an opening, which reports nothing.
+// What `counted` says of a call, of an opening, which reports nothing.
 fn told(answer: Result<(), Refusal>) -> (u8, usize) {
     counted(answer.map(|()| 0))
 }

@@ -55,6 +55,7 @@ pub fn tells<P: RadioPool>(c: &mut Controller<P>, frame: &[u8], wanted: &[[u8; 5
         .is_ok_and(|count| lists(&list, count, wanted))
 }
 
+// Flat, so that one table of a test has what is obeyed and what is refused.
 // Number and place of a refusal; 0 and the count of reports where the call is obeyed.
 pub fn counted(answer: Result<usize, Refusal>) -> (u8, usize) {
     match answer {

@@ -55,6 +55,7 @@ fn pairs_of(frame: &[u8], count: usize) -> &[[u8; 4]]
     pairs
 }
 
+// No From for pairs, flags and priorities: their types are of another crate, and only the reader knows these bytes.
 // A pair as its four bytes say it.
 fn pair_of(bytes: [u8; 4]) -> Pair
     ensures { result ≡ pair_in bytes }
@@ -95,6 +96,7 @@ fn check_pairs(pairs: &[[u8; 4]], len: usize) -> Result<(), Refusal>
     let mut from = 4 + 4 * pairs.len();
     for (i, &bytes) in pairs.iter().enumerate() {
         let Some(pair) = good_pair(bytes, from, len) else {
+            // The cast loses nothing: there are at most 32 pairs.
             return Err(broken_at((4 + 4 * i) as u16));
         };
         from = end(pair);

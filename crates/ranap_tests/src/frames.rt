@@ -30,6 +30,7 @@ pub fn pair(frame: &mut [u8], i: usize, offset: u8, length: u8) {
     );
 }
 
+// Flat, so that one table of a test has what is read and what is refused.
 // Number, layer and place of the refusal; or 0, 0 and the count of items read.
 pub fn told(frame: &[u8]) -> (u8, u8, usize) {
     match receive(frame) {

@@ -1,4 +1,4 @@
-// A controller with the tickets of its relocations, which are held beside it. The calls are in the modules below.
+// A controller with the tickets of its relocations, which are held beside it. It has no calls yet.
 ghost use Rattle.runs.specs.Held.{HoldsAll};
 ghost use Rattle.std.specs.Prelude.{◌≡◌, length};
 

@@ -28,6 +28,7 @@ impl Words<'_> {
     {
         match self.next().ok_or(Fault::MissingPool)? {
             b"tree" => Ok(Pool::Tree),
+            // The cast loses nothing: `number` has checked the range.
             b"rate" => Ok(Pool::Rate {
                 capacity: self.number(Argument::Capacity)? as u16,
             }),

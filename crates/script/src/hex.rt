@@ -35,6 +35,7 @@ fn check(word: &[u8]) -> Result<(), Fault>
 }
 
 // The byte that two digits make. Its caller has checked that they are digits; the definition reads any other byte as 0.
+// The cast loses nothing: 15 * 16 + 15 is 255.
 fn byte_of(high: u8, low: u8) -> u8
     ensures { result ≡ byte_of high low }
 {

@@ -51,6 +51,7 @@ pub fn parse(argument: Argument, word: &[u8]) -> Result<u32, Fault>
 pub fn add_grant(word: &[u8], named: &mut Vec<u8>) -> Result<(), Error>
     ensures { Adds (grant_named word.now) named.old.items result named.new.items }
 {
+    // The cast loses nothing: the range is checked.
     named.push(parse(Argument::Grant, word)? as u8)?;
     Ok(())
 }

@@ -5,6 +5,7 @@ ghost use Rattle.std.specs.Prelude.{◌≡◌, Some};
 
 use std::fmt;
 
+// Domain and timer stay numbers here: the controller refuses one that nothing has.
 #[derive(Debug, PartialEq, Eq, Drop)]
 pub enum Line {
     // No word, or a comment.

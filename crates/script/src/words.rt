@@ -29,6 +29,7 @@ impl<'a> Words<'a> {
     }
 }
 
+// Two chains of one line: one with a closure for the test would be no plainer.
 // How many spaces a text begins with.
 fn spaces(text: &[u8]) -> usize
     ensures { result ≡ length (take_while (λ b. b == 32) text.now) }

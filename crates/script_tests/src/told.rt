@@ -2,6 +2,7 @@
 use script::{Argument, Error, Fault, Line, Pool};
 use std::alloc::{AllocError, Global};
 
+// In words of its own: what is expected is fixed here, and not taken from Display.
 fn name(argument: Argument) -> &'static str {
     match argument {
         Argument::Number => "number",

@@ -19,6 +19,7 @@ impl RabTables {
         Ok(RabTables { bearers, queue })
     }
 
+    // Bearer and Request are plain data that anyone may make: what the tables keep of them is said by their look-ups.
     // The set-up RABs, by place and RAB ID.
     pub fn bearers(&self) -> &[Bearer]
         ensures answer { result.now ≡ bearers_of self.now }
@@ -47,6 +48,7 @@ impl RabTables {
             .binary_search_by_key(&(place, rab), |b| (b.place, b.rab))
     }
 
+    // Two tests of one line, of two tables: one generic function would be no plainer.
     // Whether the RAB is set up.
     pub(super) fn is_set_up(&self, place: u8, rab: u8) -> bool
         ensures { result ≡ is_some (set_up_as place rab (bearers_of self.now)) }
@@ -97,6 +99,7 @@ impl RabTables {
         self.known() >= 64
     }
 
+    // Two chains, over two tables of two types: a trait for the one field would be longer.
     // The first set-up RAB of a place, by RAB ID.
     pub fn bearer_at(&self, place: u8) -> Option<Bearer>
         ensures { result ≡ find (stands_at place) (bearers_of self.now) }

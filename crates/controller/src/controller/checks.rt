@@ -10,6 +10,7 @@ use rules::bearer::{Bearer, Request};
 use rules::item::{Assignment, Flags, Priority};
 use rules::report::Cause;
 
+// An item and its set-up RAB are two arguments, as in the definitions.
 // Level 15, "no priority", may not trigger and is not pre-emptable.
 fn effective_of(p: Priority) -> Priority
     ensures { result ≡ effective p }

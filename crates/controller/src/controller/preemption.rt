@@ -25,6 +25,7 @@ fn own_set(own: Option<Bearer>) -> GrantSet
 }
 
 impl<P: RadioPool> Controller<P> {
+    // A test with a name, as `is_preparing` and `is_bad_place` are: contracts cite each.
     // Whether the connection at a place is open.
     pub(super) fn is_open(&self, place: u8) -> bool
         ensures { result ≡ opened (state_at place (view P.radio P.state self.now)) }
@@ -58,7 +59,7 @@ impl<P: RadioPool> Controller<P> {
     {
         let mut given = own_set(self.rabs.bearer(q.place, q.rab));
         let mut victims = ArrayVec::new();
-        // The label ends both loops at once, when the grown set admits the size.
+        // The project has this search as nested loops that one label leaves, when the grown set admits the size.
         let found = 'search: {
             'levels: for level in (1..=14u8).rev() {
                 'table: for b in self.rabs.bearers() {

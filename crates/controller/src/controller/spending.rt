@@ -33,6 +33,7 @@ impl<P: RadioPool> Controller<P> {
         ticket.controller != self.number || !self.tickets.is_out(ticket.number)
     }
 
+    // An Option of the record here and below, as the definitions take one.
     // Whether the ticket's relocation runs and each of its connections is prepared.
     fn is_ready(&self, ticket: Option<TicketRecord>) -> bool
         ensures { result ≡ ready ticket (view P.radio P.state self.now) }

@@ -31,6 +31,7 @@ impl<P: RadioPool> Controller<P> {
         self.rabs.request_at(place).is_some()
     }
 
+    // Whether TRELOCprep runs at a place: a test with a name, since contracts cite it.
     fn is_preparing(&self, place: u8) -> bool
         ensures { result ≡ preparation_runs place (view P.radio P.state self.now) }
     {
