@@ -27,12 +27,18 @@ impl RatePool {
     }
 
     // The sizes that are not given back, added up.
+    // The test stands in the `map`: behind a `filter`, the sum is a loop in a loop and takes twice the time.
     fn load(&self, given: &GrantSet) -> u16
         ensures { result ≡ load (rate_of self.now) (member given.now) }
     {
         (0..64u8)
-            .filter(|&grant| !given.contains(grant))
-            .map(|grant| u16::from(self.sizes.of(grant)))
+            .map(|grant| {
+                if given.contains(grant) {
+                    0
+                } else {
+                    u16::from(self.sizes.of(grant))
+                }
+            })
             .sum()
     }
 }

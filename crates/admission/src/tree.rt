@@ -33,6 +33,12 @@ fn width(size: u8) -> usize
 fn all_free(leaves: &[Option<u8>], given: &GrantSet) -> bool
     ensures { result ≡ list_all (free_of (member given.now)) leaves.now }
 {
+    // Most blocks that are not free are told by their first leaf; for these the chain need not be set up.
+    if let Some(Some(grant)) = leaves.first()
+        && !given.contains(*grant)
+    {
+        return false;
+    }
     leaves
         .iter()
         .all(|owner| owner.is_none_or(|grant| given.contains(grant)))

@@ -104,6 +104,10 @@ unfolding serve_up_to
 serve_none x zero e = refl
 serve_none x (suc n) e = ap (λ o. elim o [ None ↦ silent x | Some w ↦ then (serve_one w x) (serve_up_to n) ]) e
 
+pub serve_empty : {m : Radio} (x : State m) (n : ℕ) → n ≡ 0 → serve_up_to n x ≡ silent x
+unfolding serve_up_to
+serve_empty x n e = ap (λ k. serve_up_to k x) e
+
 shorter_step : (p r : ℕ) (a : Request) (as' : List Request) (t : Bool) → is_some (cond t (Some a) (waits_as p r as')) ≡ true →
     (is_some (waits_as p r as') ≡ true → length (without_request p r as') + 1 ≡ length as') → length (cond t as' (a ∷ without_request p r as')) + 1 ≡ suc (length as')
 shorter_step p r a as' true e ih = omega arith

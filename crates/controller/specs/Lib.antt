@@ -10,3 +10,4 @@ pub mod Items
 pub mod Starts
 pub mod Tickets
 pub mod Checked
+pub mod Due

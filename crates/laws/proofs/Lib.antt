@@ -15,3 +15,5 @@ pub mod Waiting
 pub mod Failing
 pub mod Granted
 pub mod Frames
+pub mod Carried
+pub mod Calls

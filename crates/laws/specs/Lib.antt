@@ -7,3 +7,4 @@ pub mod Frames
 pub mod Trade
 pub mod Reasons
 pub mod Granted
+pub mod Carried

@@ -8,6 +8,7 @@ ghost use Rattle.laws.specs.Frames.{ReleasesFirst};
 ghost use Rattle.laws.specs.Items.{EachItemAnsweredOnce};
 ghost use Rattle.laws.specs.Trade.{LessIsAlwaysDone};
 ghost use Rattle.laws.specs.Reasons.{SmallestReasonWins};
+ghost use Rattle.laws.specs.Carried.{CarriedAlike};
 
 use admission::RadioPool;
 
@@ -49,4 +50,9 @@ pub fn less_is_always_done<P: RadioPool>()
 // Which reason a refused call is given.
 pub fn smallest_reason_wins<P: RadioPool>()
     ensures { SmallestReasonWins P.RadioPool.radio }
+{}
+
+// A controller over a pool that is carried into another, and answers there as it did, answers and does the same.
+pub fn carried_alike<P: RadioPool, Q: RadioPool>()
+    ensures { CarriedAlike P.RadioPool.radio Q.RadioPool.radio }
 {}

@@ -1,2 +1,3 @@
 mod Naming
 mod Alone
+mod Own

@@ -1,4 +1,5 @@
 pub mod Cabinets
 pub mod Either
 pub mod Grants
+pub mod Own
 pub mod Replies

@@ -1,6 +1,6 @@
 -- What each line is answered, which reports follow, and which controller stands after it.
 use Rattle.std.specs.Prelude.{ℕ, Bool, true, false, ◌||◌, List, [], is_some, Some, None, Ok, Err, Option, Result}
-use Rattle.rabctl.specs.Cabinets.{Standing, pools, new_cabinet}
+use Rattle.rabctl.specs.Cabinets.{Standing, new_cabinet}
 use Rattle.rabctl.specs.Grants.{named_set}
 use Rattle.rabctl.specs.declared.answer.Answer.{Answer}
 use Rattle.rabctl.specs.declared.answer.Answer.TheVariants as answer
@@ -9,6 +9,8 @@ use Rattle.rabctl.specs.declared.problem.Problem.TheVariants.{Unread, BeforeCabi
 use Rattle.rabctl.specs.declared.problem.Unbuilt.TheVariants.{Start, Execute, Withdraw}
 use Rattle.rules.specs.Calls.{open_answer, open_outcome, frame_answer, frame_outcome, expiry_answer, expiry_outcome, question}
 use Rattle.rules.specs.Frame.{received}
+use Rattle.rules.specs.Radio.{Radio}
+use Rattle.rules.specs.State.{State}
 use Rattle.rules.specs.declared.refusal.Refusal.{Refusal}
 use Rattle.rules.specs.declared.report.Report.{Report}
 use Rattle.script.specs.Saying.{Saying, skips, makes, opens, hands, expires, starts, executes, withdraws, asks_rab, asks_grant, asks_room, shows}
@@ -85,50 +87,52 @@ before_cabinet (asks_grant grant) = answer.Error BeforeCabinet
 before_cabinet (asks_room size named) = answer.Error BeforeCabinet
 before_cabinet shows = answer.Error BeforeCabinet
 
--- once the cabinet stands, its controller answers; n is the length of the report list
-abbrev pub at_cabinet : ℕ → Standing → Saying → Answer
-at_cabinet n x skips = answer.Silence
-at_cabinet n x (makes number pool) = answer.Error SecondCabinet
-at_cabinet n x (hands bytes) = answered answer.Frame (frame_answer n (received bytes) x)
-at_cabinet n x (opens place ue domain) = answered (λ _. answer.Opened) (open_answer place ue domain x)
-at_cabinet n x (expires place timer) = answered answer.Expiry (expiry_answer n place timer x)
-at_cabinet n x (starts ue) = answer.Error (NotBuilt Start)
-at_cabinet n x (executes ticket) = answer.Error (NotBuilt Execute)
-at_cabinet n x (withdraws ticket) = answer.Error (NotBuilt Withdraw)
-at_cabinet n x (asks_rab place rab) = answered answer.Rab (question place rab x)
-at_cabinet n x (asks_grant grant) = answer.Held (pools.holds x.pool grant)
-at_cabinet n x (asks_room size named) = answer.Room (pools.admits x.pool (named_set named) size)
-at_cabinet n x shows = answer.Shown
+-- over any radio pool; a cabinet's is `pools`
+module _ {m : Radio} where
+  -- once the cabinet stands, its controller answers; n is the length of the report list
+  abbrev pub at_cabinet : ℕ → State m → Saying → Answer
+  at_cabinet n x skips = answer.Silence
+  at_cabinet n x (makes number pool) = answer.Error SecondCabinet
+  at_cabinet n x (hands bytes) = answered answer.Frame (frame_answer n (received bytes) x)
+  at_cabinet n x (opens place ue domain) = answered (λ _. answer.Opened) (open_answer place ue domain x)
+  at_cabinet n x (expires place timer) = answered answer.Expiry (expiry_answer n place timer x)
+  at_cabinet n x (starts ue) = answer.Error (NotBuilt Start)
+  at_cabinet n x (executes ticket) = answer.Error (NotBuilt Execute)
+  at_cabinet n x (withdraws ticket) = answer.Error (NotBuilt Withdraw)
+  at_cabinet n x (asks_rab place rab) = answered answer.Rab (question place rab x)
+  at_cabinet n x (asks_grant grant) = answer.Held (m.holds x.pool grant)
+  at_cabinet n x (asks_room size named) = answer.Room (m.admits x.pool (named_set named) size)
+  at_cabinet n x shows = answer.Shown
 
--- the controller after a line
-abbrev pub left_at : ℕ → Standing → Saying → Standing
-left_at n x skips = x
-left_at n x (makes number pool) = x
-left_at n x (hands bytes) = (frame_outcome n (received bytes) x).state
-left_at n x (opens place ue domain) = (open_outcome place ue domain x).state
-left_at n x (expires place timer) = (expiry_outcome n place timer x).state
-left_at n x (starts ue) = x
-left_at n x (executes ticket) = x
-left_at n x (withdraws ticket) = x
-left_at n x (asks_rab place rab) = x
-left_at n x (asks_grant grant) = x
-left_at n x (asks_room size named) = x
-left_at n x shows = x
+  -- the controller after a line
+  abbrev pub left_at : ℕ → State m → Saying → State m
+  left_at n x skips = x
+  left_at n x (makes number pool) = x
+  left_at n x (hands bytes) = (frame_outcome n (received bytes) x).state
+  left_at n x (opens place ue domain) = (open_outcome place ue domain x).state
+  left_at n x (expires place timer) = (expiry_outcome n place timer x).state
+  left_at n x (starts ue) = x
+  left_at n x (executes ticket) = x
+  left_at n x (withdraws ticket) = x
+  left_at n x (asks_rab place rab) = x
+  left_at n x (asks_grant grant) = x
+  left_at n x (asks_room size named) = x
+  left_at n x shows = x
 
--- the reports of a line
-abbrev pub told_at : ℕ → Standing → Saying → List Report
-told_at n x skips = []
-told_at n x (makes number pool) = []
-told_at n x (hands bytes) = (frame_outcome n (received bytes) x).reports
-told_at n x (opens place ue domain) = []
-told_at n x (expires place timer) = (expiry_outcome n place timer x).reports
-told_at n x (starts ue) = []
-told_at n x (executes ticket) = []
-told_at n x (withdraws ticket) = []
-told_at n x (asks_rab place rab) = []
-told_at n x (asks_grant grant) = []
-told_at n x (asks_room size named) = []
-told_at n x shows = []
+  -- the reports of a line
+  abbrev pub told_at : ℕ → State m → Saying → List Report
+  told_at n x skips = []
+  told_at n x (makes number pool) = []
+  told_at n x (hands bytes) = (frame_outcome n (received bytes) x).reports
+  told_at n x (opens place ue domain) = []
+  told_at n x (expires place timer) = (expiry_outcome n place timer x).reports
+  told_at n x (starts ue) = []
+  told_at n x (executes ticket) = []
+  told_at n x (withdraws ticket) = []
+  told_at n x (asks_rab place rab) = []
+  told_at n x (asks_grant grant) = []
+  told_at n x (asks_room size named) = []
+  told_at n x shows = []
 
 -- the controller that a line makes where none stands
 abbrev pub made_by : Saying → Option Standing

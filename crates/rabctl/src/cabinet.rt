@@ -6,6 +6,7 @@ ghost use Rattle.admission.specs.Tree.{codes};
 ghost use Rattle.rabctl.specs.Cabinets.{pools, pool_of, new_pool, owns};
 ghost use Rattle.rabctl.specs.Either;
 ghost use Rattle.rabctl.specs.Either.{AnswersAlone};
+ghost use Rattle.rabctl.specs.Own.{LinesAlone};
 ghost use Rattle.std.specs.Prelude.{◌≡◌};
 
 use admission::{CodeTree, GrantSet, RadioPool, RatePool};
@@ -47,6 +48,11 @@ impl From<script::Pool> for Pool {
 // Carries that a cabinet's pool answers as the one that it is.
 fn answers_alone()
     ensures { AnswersAlone rates codes }
+{}
+
+// Carries that each line is answered as by a controller over the cabinet's own pool alone.
+fn lines_alone()
+    ensures { LinesAlone }
 {}
 
 impl RadioPool for Pool {

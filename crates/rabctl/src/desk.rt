@@ -1,12 +1,12 @@
 // The run of a script: its cabinet, and whether a line was an error.
 ghost use Rattle.controller.specs.Listed.{listed};
 ghost use Rattle.rabctl.specs.Cabinets.{stands, standing};
-ghost use Rattle.rabctl.specs.Replies.{is_error, or_error, made_by, line_reply, after_line, line_told, makes_one, may_want_memory, no_memory};
+ghost use Rattle.rabctl.specs.Replies.{is_error, or_error, before_cabinet, made_by, line_reply, after_line, line_told, makes_one, may_want_memory, no_memory};
 ghost use Rattle.rabctl.specs.declared.answer.Answer.TheVariants.{Error};
 ghost use Rattle.script.specs.Saying.{said};
 ghost use Rattle.script.specs.Script.{meaning};
 ghost use Rattle.std.specs.Option.{option_map};
-ghost use Rattle.std.specs.Prelude.{◌≡◌, true, false, ◌||◌, length, IfOk, IsErrOf, None, OnErr, ◌≢◌};
+ghost use Rattle.std.specs.Prelude.{◌≡◌, true, false, ◌||◌, length, IfOk, IsErrOf, None, OnErr, OnOk, ◌≢◌};
 
 use crate::answer::Answer;
 use crate::cabinet::{Cabinet, Pool};
@@ -63,6 +63,20 @@ impl Desk {
         self.cabinet.as_ref()
     }
 
+    // Carries a line out before the cabinet stands.
+    // Not inlined: the room for a whole cabinet would be cleared at each line.
+    #[inline(never)]
+    fn begin(&mut self, heap: Global, line: &Line) -> Result<Answer, AllocError>
+        ensures answer { IfOk result (λ a. a ≡ before_cabinet (said line.now)) }
+        ensures state { OnOk result (standing self.new.cabinet ≡ made_by (said line.now)) }
+        ensures kept { OnErr result (standing self.new.cabinet ≡ standing self.old.cabinet) }
+        ensures memory { OnErr result (makes_one None (said line.now) ≡ true) }
+        ensures failed { self.new.failed ≡ self.old.failed }
+    {
+        self.cabinet = made_by(heap, line)?;
+        Ok(reply::before_cabinet(line))
+    }
+
     // Carries a line out.
     fn carry_out(
         &mut self,
@@ -81,10 +95,7 @@ impl Desk {
         let said = script::parse(heap, line)?;
         match &mut self.cabinet {
             Some(cabinet) => Ok(reply::at_cabinet(cabinet, &said, reports)),
-            None => {
-                self.cabinet = made_by(heap, &said)?;
-                Ok(reply::before_cabinet(&said))
-            }
+            None => Ok(self.begin(heap, &said)?),
         }
     }
 

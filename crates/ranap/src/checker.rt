@@ -6,10 +6,9 @@ ghost use Rattle.std.specs.Prelude.{◌≡◌};
 use rules::item::ReadItem;
 use rules::refusal::{Reason, Refusal};
 
-// The items pass exactly when all their RAB IDs differ; else the first that repeats one is refused by its offset.
-pub fn check(items: &[ReadItem]) -> Result<(), Refusal>
-    ensures answer { result ≡ distinct items.now }
-    ensures distinct { Checks items.now result }
+// The first repeat of a RAB ID is refused by the offset of its item.
+fn first_repeat(items: &[ReadItem]) -> Result<(), Refusal>
+    ensures { result ≡ distinct items.now }
 {
     // A HashSet of the RAB IDs would want the heap.
     let mut seen = [false; 256];
@@ -24,4 +23,12 @@ pub fn check(items: &[ReadItem]) -> Result<(), Refusal>
         seen[rab] = true;
     }
     Ok(())
+}
+
+// The items pass exactly when all their RAB IDs differ; else the first that repeats one is refused by its offset.
+pub fn check(items: &[ReadItem]) -> Result<(), Refusal>
+    ensures answer { result ≡ distinct items.now }
+    ensures distinct { Checks items.now result }
+{
+    first_repeat(items)
 }

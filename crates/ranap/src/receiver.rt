@@ -10,6 +10,8 @@ use crate::reader::read;
 use rules::refusal::Refusal;
 
 // What a frame says, or why it is refused by the reader or the message check.
+// Not inlined: the room for 32 items would be cleared at each line of a script.
+#[inline(never)]
 pub fn receive(frame: &[u8]) -> Result<Message, Refusal>
     ensures answer { answered result ≡ received frame.now }
     ensures accepted { Receives frame.now (answered result) }

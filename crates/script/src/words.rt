@@ -54,6 +54,8 @@ impl<'a> Iterator for Words<'a> {
     fn next(&mut self) -> Option<&'a [u8]> {
         let (_, trimmed) = self.text.split_at(spaces(self.text));
         if trimmed.is_empty() {
+            // The spaces at the end are passed once, also where this is asked again.
+            self.text = trimmed;
             return None;
         }
         let (word, rest) = trimmed.split_at(word_length(trimmed));

@@ -92,10 +92,13 @@ impl RabTables {
         self.bearers.len() + waiting.count()
     }
 
-    // Whether 64 RABs are known.
+    // Whether 64 RABs are known. While both tables together are shorter than that, nothing need be counted.
     pub fn is_full(&self) -> bool
         ensures { result ≡ nat_le 64 (known_in (bearers_of self.now) (queue_of self.now)) }
     {
+        if self.bearers.len() + self.queue.len() < 64 {
+            return false;
+        }
         self.known() >= 64
     }
 

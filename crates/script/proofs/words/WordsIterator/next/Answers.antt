@@ -10,7 +10,7 @@ returns-then-is_empty-clause-steps c =
     let trimmed = c.split_at.result.1.now in
     let empty : trimmed ≡ [] = nil_from_length trimmed (eqb-true _ 0 (sym c.if-is_empty.ensures)) in
     let none : c.args.self.now ≡ [] = sym c.self.view_is ∙ no_word _ trimmed _ c.split_at.ensures.back c.spaces.ensures empty in
-    (none, none)
+    (none, ap words empty)
 
 pub returns-clause-steps : goal.returns-clause-steps
 returns-clause-steps c =

@@ -1,5 +1,5 @@
 use Rattle.std.proofs.Common.{◌≡◌, ℕ, ◌<◌, false, List, length, get_or, drop}
-use Rattle.ranap.proofs.checker.check.Given as goal
+use Rattle.ranap.proofs.checker.first_repeat.Given as goal
 use Rattle.rules.specs.Message.{among, repeats_among, repeats}
 
 -- the table has the RAB IDs of the items so far, and what is left gives what the whole gives
