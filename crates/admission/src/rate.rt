@@ -27,7 +27,7 @@ impl RatePool {
     }
 
     // The sizes that are not given back, added up.
-    // The test stands in the `map`: behind a `filter`, the sum is a loop in a loop and takes twice the time.
+    // The test stands in the `map`: behind a `filter`, the sum is a loop in a loop.
     fn load(&self, given: &GrantSet) -> u16
         ensures { result ≡ load (rate_of self.now) (member given.now) }
     {
